@@ -1,0 +1,148 @@
+// The days of the years 2000 to 2099: named by six bytes MMDDYY, counted from 010100 as 0, and kept in four bytes of a slot.
+// Nothing outside this crate knows the formula.
+ghost use mathlib.Core.Path.{_≡_};
+ghost use mathlib.Core.Bool.{true};
+ghost use Prim.Native.Nat.{_≤_};
+ghost use Rattle.calendar.specs.Calendar.{leap, monthDays, dayNumber, dayFrom, dayOf, noLater};
+ghost use Rattle.calendar.specs.Calendar.{storedDay, dayBytes, isBefore, isPast, onCalendar};
+use text::Spelled;
+
+// A day number. It is made only where a date field or the four bytes of a slot are read.
+pub struct Day(u32);
+
+// What six bytes name.
+pub enum Date {
+    Day(Day),
+    NoDate,
+}
+
+// The lengths of the twelve months, in a year that is no leap year.
+const MONTHS: [u32; 12] = [31, 28, 31, 30, 31, 30, 31, 31, 30, 31, 30, 31];
+
+// 123199.
+const LAST: u32 = 36524;
+
+fn is_leap(y: u32) -> bool
+    ensures { λ r. ⌜ r ≡ leap y ⌝ }
+{
+    y % 4 == 0
+}
+
+fn month_days(m: u32, y: u32) -> u32
+    requires { ⌜ (1 ≤ m) × (m ≤ 12) ⌝ }
+    ensures { λ r. ⌜ (r ≡ monthDays m y) × (r ≤ 31) ⌝ }
+{
+    let k = (m - 1) as usize;
+    if m == 2 {
+        if is_leap(y) {
+            return 29;
+        }
+    }
+    MONTHS[k]
+}
+
+fn day_number(m: u32, d: u32, y: u32) -> u32
+    requires { ⌜ (1 ≤ m) × (m ≤ 12) × (1 ≤ d) × (d ≤ 31) × (y ≤ 99) ⌝ }
+    ensures { λ r. ⌜ (r ≡ dayNumber m d y) × (r ≤ 36524) ⌝ }
+{
+    let years = 365 * y + (y + 3) / 4;
+    let months = (367 * m - 362) / 12;
+    if m <= 2 {
+        return years + months + d - 1;
+    }
+    if is_leap(y) {
+        return years + months - 1 + d - 1;
+    }
+    years + months - 2 + d - 1
+}
+
+fn day_from(m: u32, d: u32, y: u32) -> Date
+    ensures { λ r. ⌜ (r ≡ dayFrom m d y) × (noLater r ≡ true) ⌝ }
+{
+    if 99 < y {
+        return Date::NoDate;
+    }
+    if m < 1 {
+        return Date::NoDate;
+    }
+    if 12 < m {
+        return Date::NoDate;
+    }
+    if d < 1 {
+        return Date::NoDate;
+    }
+    if month_days(m, y) < d {
+        return Date::NoDate;
+    }
+    Date::Day(Day(day_number(m, d, y)))
+}
+
+// The day that six bytes MMDDYY name; it is at most 36524.
+pub fn day_in(f: &[u8]) -> Date
+    ensures { λ r. ⌜ (r ≡ dayOf (now (f .entry))) × (noLater r ≡ true) ⌝ }
+{
+    if f.len() != 6 {
+        return Date::NoDate;
+    }
+    let Spelled::Number(m) = text::number_in(&f[0..2], 2, 2) else {
+        return Date::NoDate;
+    };
+    let Spelled::Number(d) = text::number_in(&f[2..4], 2, 2) else {
+        return Date::NoDate;
+    };
+    let Spelled::Number(y) = text::number_in(&f[4..6], 2, 2) else {
+        return Date::NoDate;
+    };
+    day_from(m, d, y)
+}
+
+fn wide(b: u8) -> u32
+    ensures { λ r. ⌜ (r ≡ b) × (r ≤ 255) ⌝ }
+{
+    b as u32
+}
+
+impl Day {
+    // The day of a slot, from its four bytes, the high byte first.
+    pub fn stored(a: u8, b: u8, c: u8, d: u8) -> Day
+        ensures { λ r. ⌜ r ≡ storedDay a b c d ⌝ }
+    {
+        Day(wide(a) * 16777216 + wide(b) * 65536 + wide(c) * 256 + wide(d))
+    }
+
+    // The four bytes of a day in a slot.
+    pub fn bytes(self) -> [u8; 4]
+        ensures { λ r. ⌜ r ≡ dayBytes self ⌝ }
+    {
+        let n = self.0;
+        [
+            (n / 16777216 % 256) as u8,
+            (n / 65536 % 256) as u8,
+            (n / 256 % 256) as u8,
+            (n % 256) as u8,
+        ]
+    }
+
+    pub fn is_before(self, other: Day) -> bool
+        ensures { λ r. ⌜ r ≡ isBefore self other ⌝ }
+    {
+        self.0 < other.0
+    }
+
+    // Whether so many days have passed since this one on that day.
+    pub fn is_past(self, days: u32, today: Day) -> bool
+        ensures { λ r. ⌜ r ≡ isPast self days today ⌝ }
+    {
+        if today.0 < days {
+            return false;
+        }
+        self.0 <= today.0 - days
+    }
+
+    // Whether six bytes can name it. A slot's four bytes can hold more.
+    pub fn is_on_calendar(self) -> bool
+        ensures { λ r. ⌜ r ≡ onCalendar self ⌝ }
+    {
+        self.0 <= LAST
+    }
+}

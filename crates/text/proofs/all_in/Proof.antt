@@ -1,0 +1,51 @@
+use mathlib.Core.Path.{_≡_, refl}
+use mathlib.Core.Bool.{_&&_}
+use Prim.Native.Nat.{_≤_, _-_}
+use lib.ListN.{length, drop}
+use denote.Ref.{now}
+use borrow.Author.Needs.{needs}
+use Rattle.text.specs.Text.{allIn}
+use Rattle.text.proofs.Laws.{all-more, all-done}
+use Rattle.text.proofs.all_in.Tie as tie
+use Rattle.text.proofs.all_in.Statement.{statement}
+
+abbrev Inv-loop : tie.InvT-loop
+Inv-loop f k all₀ i₀ all i = (i ≤ length f) × ((all && allIn k (drop i f)) ≡ allIn k f)
+
+abbrev μ-loop : tie.MeasureT-loop
+μ-loop f k all₀ i₀ all i = length f - i
+
+loop-holds : tie.Need-loop-holds Inv-loop μ-loop
+loop-holds c = (search needs, refl)
+
+shared-slice-read-in-class : tie.Need-shared-slice-read-in-class Inv-loop μ-loop
+shared-slice-read-in-class c = search needs
+
+in-class-requires : tie.Need-in-class-requires Inv-loop μ-loop
+in-class-requires c κs = search needs
+
+add-i : tie.Need-add-i Inv-loop μ-loop
+add-i c = search needs
+
+loop-less : tie.Need-loop-less Inv-loop μ-loop
+loop-less c = search needs
+
+loop-again : tie.Need-loop-again Inv-loop μ-loop
+loop-again c = (search needs, all-more (c .before .before .before .before .before .args .k) (c .before .before .before .before .before .args .f .now) (c .before .before .before .loop .i) (c .before .before .before .loop .all) (c .in-class .result) (c .before .before .loop-test .taken) (c .in-class .ensures) (c .before .before .before .loop .inv .1))
+
+returns : tie.Need-returns Inv-loop μ-loop
+returns c = all-done (c .before .before .before .args .k) (c .before .before .before .args .f .now) (c .before .loop .i) (c .before .loop .all) (c .loop-test .left) (c .before .loop .inv .1)
+
+pub all-in-spec : {M : Type 1} → statement M
+all-in-spec =
+    tie.close
+    (tie.spec
+    Inv-loop
+    μ-loop
+    loop-holds
+    shared-slice-read-in-class
+    in-class-requires
+    add-i
+    loop-less
+    loop-again
+    returns)

@@ -1,0 +1,76 @@
+use mathlib.Core.Path.{_∙_, sym, ap}
+use native.Mathlib.Nat.{sub-zero}
+use borrow.Author.Needs.{needs}
+use borrow.Author.Tests.{le-leb, lt-leb}
+use Rattle.text.specs.declared.Spelled.the-variants.{Number}
+use Rattle.text.specs.Text.{runsOf, spelled}
+use Rattle.text.proofs.Laws.{rest-is}
+use Rattle.text.proofs.number_in.Tie as tie
+use Rattle.text.proofs.number_in.Statement.{statement}
+
+returns : tie.Need-returns
+unfolding spelled
+returns c = rw (lt-leb _ _ (c .if1 .taken))
+
+run-requires : tie.Need-run-requires
+run-requires c κs = search needs
+
+returns-2 : tie.Need-returns-2
+unfolding spelled runsOf
+returns-2 c = rw (← c .before .run .ensures .0, le-leb _ _ (c .before .before .if1 .left), lt-leb _ _ (c .if2 .taken))
+
+returns-3 : tie.Need-returns-3
+unfolding spelled runsOf
+returns-3 c = rw (← c .before .before .run .ensures .0, le-leb _ _ (c .before .before .before .if1 .left), le-leb _ _ (c .before .if2 .left), lt-leb _ _ (c .if3 .taken))
+
+sub-is-blank : tie.Need-sub-is-blank
+sub-is-blank c = search needs
+
+part-is-blank-start : tie.Need-part-is-blank-start
+part-is-blank-start c = search needs
+
+part-is-blank-end : tie.Need-part-is-blank-end
+part-is-blank-end c = search needs
+
+is-blank-requires : tie.Need-is-blank-requires
+is-blank-requires c κs = search needs
+
+sub-value : tie.Need-sub-value
+sub-value c = search needs
+
+part-value-start : tie.Need-part-value-start
+part-value-start c = search needs
+
+part-value-end : tie.Need-part-value-end
+part-value-end c = search needs
+
+value-requires : tie.Need-value-requires
+value-requires c κs = search needs
+
+returns-4 : tie.Need-returns-4
+unfolding spelled runsOf
+returns-4 c = rw (← c .before .before .before .before .before .before .before .run .ensures .0, le-leb _ _ (c .before .before .before .before .before .before .before .before .if1 .left), le-leb _ _ (c .before .before .before .before .before .before .if2 .left), le-leb _ _ (c .before .before .before .before .before .if3 .left), sym (rw rest-is at (c .before .before .before .is-blank .ensures)) ∙ c .before .before .if4 .taken)
+    (ap Number (rw sub-zero at (c .value .ensures .0)))
+
+returns-5 : tie.Need-returns-5
+unfolding spelled runsOf
+returns-5 c = rw (← c .before .before .before .before .before .run .ensures .0, le-leb _ _ (c .before .before .before .before .before .before .if1 .left), le-leb _ _ (c .before .before .before .before .if2 .left), le-leb _ _ (c .before .before .before .if3 .left), sym (rw rest-is at (c .before .is-blank .ensures)) ∙ c .if4 .left)
+
+pub number-in-spec : {M : Type 1} → statement M
+number-in-spec =
+    tie.close
+    (tie.spec
+    returns
+    run-requires
+    returns-2
+    returns-3
+    sub-is-blank
+    part-is-blank-start
+    part-is-blank-end
+    is-blank-requires
+    sub-value
+    part-value-start
+    part-value-end
+    value-requires
+    returns-4
+    returns-5)

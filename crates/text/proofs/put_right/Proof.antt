@@ -1,0 +1,30 @@
+use borrow.Author.Needs.{needs}
+use borrow.Author.Tests.{le-leb, lt-leb}
+use Rattle.text.specs.Text.{rightDigits}
+use Rattle.text.proofs.put_right.Tie as tie
+use Rattle.text.proofs.put_right.Statement.{statement}
+
+width-of-requires : tie.Need-width-of-requires
+width-of-requires c κs = search needs
+
+sub-a : tie.Need-sub-a
+sub-a c = search needs
+
+put-among-spaces-requires : tie.Need-put-among-spaces-requires
+put-among-spaces-requires c κs = search needs
+
+same-length : tie.Need-same-length
+same-length c = search needs
+
+returns : tie.Need-returns
+unfolding rightDigits
+returns c = rw (← c .before .before .before .before .before .width-of .ensures .0, le-leb _ _ (c .before .before .before .before .if1 .taken)) (c .before .before .put-among-spaces .ensures)
+
+returns-2 : tie.Need-returns-2
+unfolding rightDigits
+returns-2 c = rw (← c .before .width-of .ensures .0, lt-leb _ _ (c .if1 .left))
+
+pub put-right-spec : {M : Type 1} → statement M
+put-right-spec =
+    tie.close
+    (tie.spec width-of-requires sub-a put-among-spaces-requires same-length returns returns-2)

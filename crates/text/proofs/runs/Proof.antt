@@ -1,0 +1,46 @@
+use borrow.Author.Needs.{needs}
+use borrow.Author.Tests.{le-leb, lt-leb}
+use Rattle.text.specs.Text.{runsOf}
+use Rattle.text.proofs.Laws.{rest-is}
+use Rattle.text.proofs.runs.Tie as tie
+use Rattle.text.proofs.runs.Statement.{statement}
+
+run-requires : tie.Need-run-requires
+run-requires c κs = search needs
+
+returns : tie.Need-returns
+unfolding runsOf
+returns c = rw (← c .before .run .ensures .0, lt-leb _ _ (c .if1 .taken))
+
+returns-2 : tie.Need-returns-2
+unfolding runsOf
+returns-2 c = rw (← c .before .before .run .ensures .0, le-leb _ _ (c .before .if1 .left), lt-leb _ _ (c .if2 .taken))
+
+sub-is-blank : tie.Need-sub-is-blank
+sub-is-blank c = search needs
+
+part-is-blank-start : tie.Need-part-is-blank-start
+part-is-blank-start c = search needs
+
+part-is-blank-end : tie.Need-part-is-blank-end
+part-is-blank-end c = search needs
+
+is-blank-requires : tie.Need-is-blank-requires
+is-blank-requires c κs = search needs
+
+returns-3 : tie.Need-returns-3
+unfolding runsOf
+returns-3 c = rw (← c .before .before .before .before .run .ensures .0, le-leb _ _ (c .before .before .before .if1 .left), le-leb _ _ (c .before .before .if2 .left)) (rw rest-is at (c .is-blank .ensures))
+
+pub runs-spec : {M : Type 1} → statement M
+runs-spec =
+    tie.close
+    (tie.spec
+    run-requires
+    returns
+    returns-2
+    sub-is-blank
+    part-is-blank-start
+    part-is-blank-end
+    is-blank-requires
+    returns-3)

@@ -1,0 +1,272 @@
+// Parts of a line of bytes: classes of bytes, blank, runs of a class, the number that digits spell, whether two parts are
+// the same, and what is written into a part. Each loop is written and proved once, and every other crate calls it.
+ghost use mathlib.Core.Path.{_≡_};
+ghost use Prim.Native.Nat.{_+_, _≤_, _<_, _^_};
+ghost use lib.ListN.{length, replicate};
+ghost use Rattle.text.specs.Text.{inClass, allIn, blank, runOf, runsOf, digitOf, valueOf, spelled};
+ghost use Rattle.text.specs.Text.{sameBytes, memberOf, allOf, part, putAt, digits, width, amongSpaces, leftDigits, rightDigits};
+
+// The classes of bytes that the field rules name.
+pub enum Class {
+    Printable,
+    Space,
+    Digit,
+    Capital,
+    CapitalOrDigit,
+}
+
+pub fn in_class(k: Class, b: u8) -> bool
+    ensures { λ r. ⌜ r ≡ inClass k b ⌝ }
+{
+    match k {
+        Class::Printable => (32 <= b) & (b <= 126),
+        Class::Space => b == 32,
+        Class::Digit => (48 <= b) & (b <= 57),
+        Class::Capital => (65 <= b) & (b <= 90),
+        Class::CapitalOrDigit => ((48 <= b) & (b <= 57)) | ((65 <= b) & (b <= 90)),
+    }
+}
+
+// Whether every byte is of the class. It does not stop at the first that is not: nearly all fields are good, and a loop
+// with one way out is done many bytes at a time.
+pub fn all_in(f: &[u8], k: Class) -> bool
+    ensures { λ r. ⌜ r ≡ allIn k (now (f .entry)) ⌝ }
+{
+    let mut all = true;
+    let mut i = 0;
+    while i < f.len() {
+        all = all & in_class(k, f[i]);
+        i += 1;
+    }
+    all
+}
+
+pub fn is_blank(f: &[u8]) -> bool
+    ensures { λ r. ⌜ r ≡ blank (now (f .entry)) ⌝ }
+{
+    all_in(f, Class::Space)
+}
+
+// How many bytes of the class it begins with.
+pub fn run(f: &[u8], k: Class) -> usize
+    ensures { λ r. ⌜ (r ≡ runOf k (now (f .entry))) × (r ≤ length (now (f .entry))) ⌝ }
+{
+    let mut i = 0;
+    while i < f.len() {
+        if in_class(k, f[i]) {
+            i += 1;
+        } else {
+            return i;
+        }
+    }
+    i
+}
+
+// From low to high bytes of the class, and then only spaces.
+pub fn runs(f: &[u8], k: Class, low: usize, high: usize) -> bool
+    ensures { λ r. ⌜ r ≡ runsOf k low high (now (f .entry)) ⌝ }
+{
+    let n = run(f, k);
+    if n < low {
+        return false;
+    }
+    if high < n {
+        return false;
+    }
+    is_blank(&f[n..])
+}
+
+fn digit(b: u8) -> u32
+    ensures { λ r. ⌜ (r ≡ digitOf b) × (r < 10) ⌝ }
+{
+    if 48 <= b {
+        if b <= 57 {
+            return (b - 48) as u32;
+        }
+    }
+    0
+}
+
+fn value(f: &[u8]) -> u32
+    requires { ⌜ length (now f) ≤ 9 ⌝ }
+    ensures { λ r. ⌜ (r ≡ valueOf (now (f .entry))) × (r < 10 ^ length (now (f .entry))) ⌝ }
+{
+    let mut n: u32 = 0;
+    let mut i = 0;
+    while i < f.len() {
+        n = n * 10 + digit(f[i]);
+        i += 1;
+    }
+    n
+}
+
+// What a field of digits spells: a number, or none.
+pub enum Spelled {
+    Number(u32),
+    NoNumber,
+}
+
+// The number that from low to high digits spell, with only spaces behind them. No field has more than nine digits.
+pub fn number_in(f: &[u8], low: usize, high: usize) -> Spelled
+    ensures { λ r. ⌜ r ≡ spelled low high (now (f .entry)) ⌝ }
+{
+    if 9 < high {
+        return Spelled::NoNumber;
+    }
+    let n = run(f, Class::Digit);
+    if n < low {
+        return Spelled::NoNumber;
+    }
+    if high < n {
+        return Spelled::NoNumber;
+    }
+    if is_blank(&f[n..]) {
+        return Spelled::Number(value(&f[0..n]));
+    }
+    Spelled::NoNumber
+}
+
+// Whether two parts are the same bytes.
+pub fn same(a: &[u8], b: &[u8]) -> bool
+    ensures { λ r. ⌜ r ≡ sameBytes (now (a .entry)) (now (b .entry)) ⌝ }
+{
+    let mut i = 0;
+    while i < a.len() {
+        if i < b.len() {
+            if a[i] == b[i] {
+                i += 1;
+            } else {
+                return false;
+            }
+        } else {
+            return false;
+        }
+    }
+    if i < b.len() {
+        return false;
+    }
+    true
+}
+
+fn member(set: &[u8], b: u8) -> bool
+    ensures { λ r. ⌜ r ≡ memberOf b (now (set .entry)) ⌝ }
+{
+    let mut i = 0;
+    while i < set.len() {
+        if set[i] == b {
+            return true;
+        } else {
+            i += 1;
+        }
+    }
+    false
+}
+
+// Whether every byte is one of the set.
+pub fn all_of(f: &[u8], set: &[u8]) -> bool
+    ensures { λ r. ⌜ r ≡ allOf (now (set .entry)) (now (f .entry)) ⌝ }
+{
+    let mut i = 0;
+    while i < f.len() {
+        if member(set, f[i]) {
+            i += 1;
+        } else {
+            return false;
+        }
+    }
+    true
+}
+
+// The n bytes from i, or as many of them as there are.
+pub fn part_of(s: &[u8], i: usize, n: usize) -> &[u8]
+    ensures { λ r. ⌜ now r ≡ part i n (now (s .entry)) ⌝ }
+{
+    if i <= s.len() {
+        if n <= s.len() - i {
+            let e = i + n;
+            return &s[i..e];
+        }
+        return &s[i..];
+    }
+    &s[0..0]
+}
+
+// The bytes of b over those of s from i on, where they fit.
+pub fn put(s: &mut [u8], i: usize, b: &[u8])
+    ensures { λ _. ⌜ now (s .exit) ≡ putAt i (now (b .entry)) (now (s .entry)) ⌝ }
+{
+    if i <= s.len() {
+        if b.len() <= s.len() - i {
+            let e = i + b.len();
+            bytes::copy(b, &mut s[i..e]);
+        }
+    }
+}
+
+// Every byte becomes b.
+pub fn fill(s: &mut [u8], b: u8)
+    ensures { λ _. ⌜ now (s .exit) ≡ replicate (length (now (s .entry))) b ⌝ }
+{
+    let mut i = 0;
+    while i < s.len() {
+        s[i] = b;
+        i += 1;
+    }
+}
+
+// The last digits of n, as many as there are bytes.
+fn put_digits(s: &mut [u8], n: u32)
+    ensures { λ _. ⌜ now (s .exit) ≡ digits (length (now (s .entry))) n ⌝ }
+{
+    let mut m = n;
+    let mut i = s.len();
+    while 0 < i {
+        i -= 1;
+        s[i] = (48 + m % 10) as u8;
+        m = m / 10;
+    }
+}
+
+// How many digits n has, without a leading zero; zero has one.
+fn width_of(n: u32) -> usize
+    ensures { λ r. ⌜ (r ≡ width n) × (r ≤ 10) ⌝ }
+{
+    let mut m = n;
+    let mut w = 1;
+    while 10 <= m {
+        m = m / 10;
+        w += 1;
+    }
+    w
+}
+
+// Spaces, but for the last w digits of n from a on.
+fn put_among_spaces(s: &mut [u8], a: usize, w: usize, n: u32)
+    requires { ⌜ a + w ≤ length (now s) ⌝ }
+    ensures { λ _. ⌜ now (s .exit) ≡ amongSpaces a w n (length (now (s .entry))) ⌝ }
+{
+    let e = a + w;
+    fill(&mut s[..], 32);
+    put_digits(&mut s[a..e], n);
+}
+
+// n in decimal with no leading zero, and spaces behind; unchanged where it does not fit.
+pub fn put_left(s: &mut [u8], n: u32)
+    ensures { λ _. ⌜ now (s .exit) ≡ leftDigits n (now (s .entry)) ⌝ }
+{
+    let w = width_of(n);
+    if w <= s.len() {
+        put_among_spaces(&mut s[..], 0, w, n);
+    }
+}
+
+// Spaces, and then n in decimal with no leading zero; unchanged where it does not fit.
+pub fn put_right(s: &mut [u8], n: u32)
+    ensures { λ _. ⌜ now (s .exit) ≡ rightDigits n (now (s .entry)) ⌝ }
+{
+    let w = width_of(n);
+    if w <= s.len() {
+        let a = s.len() - w;
+        put_among_spaces(&mut s[..], a, w, n);
+    }
+}
