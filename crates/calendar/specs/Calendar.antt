@@ -44,6 +44,11 @@ dayOf f =
     dayFrom m d y))))
     NoDate
 
+-- what is made of the day, or what stands where there is no date
+abbrev pub onDay : {A : Type 0} → Date → A → (Day → A) → A
+onDay (aDay d) other k = k d
+onDay NoDate other k = other
+
 -- a slot's day is "at most 36524"
 abbrev pub onCalendar : Day → Bool
 onCalendar d = leb (d .0) 36524

@@ -2,7 +2,7 @@
 // the same, and what is written into a part. Each loop is written and proved once, and every other crate calls it.
 ghost use mathlib.Core.Path.{_≡_};
 ghost use Prim.Native.Nat.{_+_, _≤_, _<_, _^_};
-ghost use lib.ListN.{length, replicate};
+ghost use lib.ListN.{length, getD, replicate};
 ghost use Rattle.text.specs.Text.{inClass, allIn, blank, runOf, runsOf, digitOf, valueOf, spelled};
 ghost use Rattle.text.specs.Text.{sameBytes, memberOf, allOf, part, putAt, digits, width, amongSpaces, leftDigits, rightDigits};
 
@@ -189,6 +189,16 @@ pub fn part_of(s: &[u8], i: usize, n: usize) -> &[u8]
         return &s[i..];
     }
     &s[0..0]
+}
+
+// The byte at i, or 0 where there is none.
+pub fn byte_of(s: &[u8], i: usize) -> u8
+    ensures { λ r. ⌜ r ≡ getD (now (s .entry)) i 0 ⌝ }
+{
+    if i < s.len() {
+        return s[i];
+    }
+    0
 }
 
 // The bytes of b over those of s from i on, where they fit.

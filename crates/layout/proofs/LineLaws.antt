@@ -1,0 +1,72 @@
+-- Turns of the loops that walk a list two and three numbers at a time: the pairs of letters, and the fields of a table.
+-- Assumes nothing.
+use mathlib.Core.Path.{_≡_, _∙_, refl, sym, ap}
+use mathlib.Core.Bool.{Bool, true, false, _&&_, _||_}
+use mathlib.Core.List.{List, [], _∷_}
+use Prim.Native.Nat.{ℕ, _+_, _≤_, _<_}
+use native.Mathlib.Omega.{arith}
+use lib.Dec.{eqb}
+use lib.ListN.{length, drop, getD, length-drop}
+use borrow.Author.Tests.{eq-eqb, ne-eqb}
+use Rattle.text.specs.Text.{part}
+use Rattle.text.proofs.Laws.{left-at}
+use Rattle.layout.specs.Rules.{pairIn, fromZero, faultBy, faultIn, orElse}
+
+two-at : (s : List ℕ) (i : ℕ) → i + 1 < length s → drop i s ≡ getD s i 0 ∷ getD s (i + 1) 0 ∷ drop (i + 2) s
+two-at s i h =
+    let a : i < length s = omega arith in
+    let e : i + 1 + 1 ≡ i + 2 = omega arith in
+    left-at s i a ∙ ap (λ x. getD s i 0 ∷ x) (left-at s (i + 1) h ∙ ap (λ k. getD s (i + 1) 0 ∷ drop k s) e)
+
+three-at : (s : List ℕ) (i : ℕ) → i + 2 < length s
+    → drop i s ≡ getD s i 0 ∷ getD s (i + 1) 0 ∷ getD s (i + 2) 0 ∷ drop (i + 3) s
+three-at s i h =
+    let a : i + 1 < length s = omega arith in
+    let e : i + 2 + 1 ≡ i + 3 = omega arith in
+    two-at s i a ∙ ap (λ x. getD s i 0 ∷ getD s (i + 1) 0 ∷ x) (left-at s (i + 2) h ∙ ap (λ k. getD s (i + 2) 0 ∷ drop k s) e)
+
+-- ---- pairs
+
+module _ (a b : ℕ) (s : List ℕ) (i : ℕ) {v : Bool} (inv : pairIn a b (drop i s) ≡ v) where
+  pair-at : i + 1 < length s → ((eqb (getD s i 0) a && eqb (getD s (i + 1) 0) b) || pairIn a b (drop (i + 2) s)) ≡ v
+  pair-at h = sym (ap (pairIn a b) (two-at s i h)) ∙ inv
+
+  pub pair-found : i + 1 < length s → getD s i 0 ≡ a → getD s (i + 1) 0 ≡ b → true ≡ v
+  pair-found h p q = rw (eq-eqb _ _ p, eq-eqb _ _ q) at (pair-at h)
+
+  pub pair-first : i + 1 < length s → (getD s i 0 ≡ a → ⊥) → pairIn a b (drop (i + 2) s) ≡ v
+  pair-first h p = rw (ne-eqb _ _ p) at (pair-at h)
+
+  pub pair-second : i + 1 < length s → getD s i 0 ≡ a → (getD s (i + 1) 0 ≡ b → ⊥) → pairIn a b (drop (i + 2) s) ≡ v
+  pair-second h p q = rw (eq-eqb _ _ p, ne-eqb _ _ q) at (pair-at h)
+
+pair-short : (a b : ℕ) (t : List ℕ) → length t ≤ 1 → pairIn a b t ≡ false
+pair-short a b [] h = refl
+pair-short a b (p ∷ []) h = refl
+pair-short a b (p ∷ q ∷ t) h = absurd (omega arith)
+
+pub pair-none : (a b : ℕ) (s : List ℕ) (i : ℕ) {v : Bool} → pairIn a b (drop i s) ≡ v → length s ≤ i + 1 → false ≡ v
+pair-none a b s i inv h = sym (pair-short a b (drop i s) (simp length-drop (omega arith))) ∙ inv
+
+-- ---- fields; f is the fault of the field at i
+
+module _ (lax : Bool) (s t : List ℕ) (i f : ℕ) {v : ℕ} (inv : faultIn lax s (drop i t) ≡ v) (h : i + 2 < length t) (e : f ≡ faultBy (getD t i 0) (getD t (i + 1) 0) (getD t (i + 2) 0) lax s (part (fromZero (getD t i 0)) (getD t (i + 1) 0) s)) where
+  fault-at : orElse f (faultIn lax s (drop (i + 3) t)) ≡ v
+  unfolding faultIn
+  fault-at = rw e (sym (ap (faultIn lax s) (three-at t i h)) ∙ inv)
+
+  pub fault-later : f ≡ 0 → faultIn lax s (drop (i + 3) t) ≡ v
+  fault-later z = rw (eq-eqb f 0 z) at fault-at
+
+  pub fault-here : (f ≡ 0 → ⊥) → f ≡ v
+  fault-here z = rw (ne-eqb f 0 z) at fault-at
+
+fault-short : (lax : Bool) (s t : List ℕ) → length t ≤ 2 → faultIn lax s t ≡ 0
+unfolding faultIn
+fault-short lax s [] h = refl
+fault-short lax s (p ∷ []) h = refl
+fault-short lax s (p ∷ q ∷ []) h = refl
+fault-short lax s (p ∷ q ∷ r ∷ t) h = absurd (omega arith)
+
+pub fault-none : (lax : Bool) (s t : List ℕ) (i : ℕ) {v : ℕ} → faultIn lax s (drop i t) ≡ v → length t ≤ i + 2 → 0 ≡ v
+fault-none lax s t i inv h = sym (fault-short lax s (drop i t) (simp length-drop (omega arith))) ∙ inv

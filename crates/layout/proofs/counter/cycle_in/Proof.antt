@@ -1,0 +1,35 @@
+use borrow.Author.Needs.{needs}
+use borrow.Author.Tests.{lt-ltb, le-ltb}
+use Rattle.layout.specs.Counters.{cycleOf}
+use Rattle.layout.proofs.counter.cycle_in.Tie as tie
+use Rattle.layout.proofs.counter.cycle_in.Statement.{statement}
+
+number-in-requires : tie.Need-number-in-requires
+number-in-requires c κs = search needs
+
+enum-known-n : tie.Need-enum-known-n
+enum-known-n c = search needs
+
+enum-told : tie.Need-enum-told
+enum-told c = search needs
+
+returns : tie.Need-returns
+unfolding cycleOf
+returns c = rw (← c .before .before .number-in .ensures, c .enum-told .given .1)
+
+returns-2 : tie.Need-returns-2
+unfolding cycleOf
+returns-2 c = rw (← c .before .before .before .before .number-in .ensures, c .before .before .n .given .1, lt-ltb _ _ (c .if1 .taken))
+
+returns-3 : tie.Need-returns-3
+unfolding cycleOf
+returns-3 c = rw (← c .before .before .before .before .before .number-in .ensures, c .before .before .before .n .given .1, le-ltb _ _ (c .before .if1 .left), lt-ltb _ _ (c .if2 .taken))
+
+returns-4 : tie.Need-returns-4
+unfolding cycleOf
+returns-4 c = rw (← c .before .before .before .before .before .number-in .ensures, c .before .before .before .n .given .1, le-ltb _ _ (c .before .if1 .left), le-ltb _ _ (c .if2 .left))
+
+pub cycle-in-spec : {M : Type 1} → statement M
+cycle-in-spec =
+    tie.close
+    (tie.spec number-in-requires enum-known-n enum-told returns returns-2 returns-3 returns-4)

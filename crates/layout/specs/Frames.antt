@@ -1,0 +1,43 @@
+-- 01, "Header" and "Trailer", read to what taking needs. Each table says how long its line is.
+-- Assumes nothing.
+use Prim.Native.Nat.{ℕ}
+use mathlib.Core.List.{List}
+use mathlib.Core.Bool.{Bool, true, false, _&&_, cond}
+use lib.Dec.{eqb}
+use Rattle.text.specs.Text.{sameBytes}
+use Rattle.calendar.specs.Calendar.{dayOf, onDay}
+use Rattle.layout.specs.Tables.{header, trailer, field, frameDate, name, cycle, count}
+use Rattle.layout.specs.Counters.{cycleOf, onCycle, countOf, onCount}
+use Rattle.layout.specs.Rules.{faultIn}
+use Rattle.layout.specs.declared.frame.Header.{Header}
+use Rattle.layout.specs.declared.frame.Opened.{Opened}
+use Rattle.layout.specs.declared.frame.Opened.the-variants.{Header as aHeader, Wrong as noHeader}
+use Rattle.layout.specs.declared.frame.Closed.{Closed}
+use Rattle.layout.specs.declared.frame.Closed.the-variants.{Trailer as aTrailer, Wrong as noTrailer}
+
+-- date and company name stand at the same places in both
+unfoldable pub dateOf : List ℕ → List ℕ
+dateOf s = field header frameDate s
+
+unfoldable pub nameOf : List ℕ → List ℕ
+nameOf s = field header name s
+
+-- a header by table t: each field keeps its rule; its day and its cycle
+unfoldable pub headerOf : List ℕ → List ℕ → Opened
+headerOf t s =
+    cond (eqb (faultIn false s t) 0)
+    (onDay (dayOf (dateOf s)) noHeader (λ d.
+    onCycle (cycleOf (field header cycle s)) noHeader (λ c.
+    aHeader (record { day = d; cycle = c }))))
+    noHeader
+
+-- "its date or name differs from the header's"
+unfoldable pub sameFrame : List ℕ → List ℕ → Bool
+sameFrame h s = sameBytes (dateOf h) (dateOf s) && sameBytes (nameOf h) (nameOf s)
+
+-- a trailer by table t, beside its header h: its record count
+unfoldable pub trailerOf : List ℕ → List ℕ → List ℕ → Closed
+trailerOf t h s =
+    cond (eqb (faultIn false s t) 0)
+    (cond (sameFrame h s) (onCount (countOf (field trailer count s)) noTrailer aTrailer) noTrailer)
+    noTrailer

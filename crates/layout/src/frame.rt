@@ -1,0 +1,99 @@
+// Header and trailer of a file, read to what taking needs. Their lengths are those of the tables handed in.
+ghost use mathlib.Core.Path.{_≡_};
+ghost use Rattle.layout.specs.Frames.{dateOf, nameOf, headerOf, sameFrame, trailerOf};
+use crate::check;
+use crate::counter;
+use crate::counter::Count;
+use crate::counter::Cycle;
+use crate::counter::Tally;
+use crate::counter::Turn;
+use crate::table;
+use crate::table::HEADER;
+use crate::table::TRAILER;
+use calendar::Date;
+use calendar::Day;
+
+const DATE_AT: usize = HEADER[3 * table::FRAME_DATE] - 1;
+
+const DATE_SIZE: usize = HEADER[3 * table::FRAME_DATE + 1];
+
+const NAME_AT: usize = HEADER[3 * table::NAME] - 1;
+
+const NAME_SIZE: usize = HEADER[3 * table::NAME + 1];
+
+const CYCLE_AT: usize = HEADER[3 * table::CYCLE] - 1;
+
+const CYCLE_SIZE: usize = HEADER[3 * table::CYCLE + 1];
+
+const COUNT_AT: usize = TRAILER[3 * table::COUNT] - 1;
+
+const COUNT_SIZE: usize = TRAILER[3 * table::COUNT + 1];
+
+// What a step knows of the file that its record stands in.
+pub struct Header {
+    pub day: Day,
+    pub cycle: Cycle,
+}
+
+pub enum Opened {
+    Header(Header),
+    Wrong,
+}
+
+pub enum Closed {
+    Trailer(Count),
+    Wrong,
+}
+
+// The date of a header or a trailer, six bytes.
+pub fn date(s: &[u8]) -> &[u8]
+    ensures { λ r. ⌜ now r ≡ dateOf (now (s .entry)) ⌝ }
+{
+    text::part_of(s, DATE_AT, DATE_SIZE)
+}
+
+// The company name of a header or a trailer, 50 bytes.
+pub fn name(s: &[u8]) -> &[u8]
+    ensures { λ r. ⌜ now r ≡ nameOf (now (s .entry)) ⌝ }
+{
+    text::part_of(s, NAME_AT, NAME_SIZE)
+}
+
+// The day and the cycle of a header, or that it is wrong.
+pub fn header_in(table: &[usize], s: &[u8]) -> Opened
+    ensures { λ r. ⌜ r ≡ headerOf (now (table .entry)) (now (s .entry)) ⌝ }
+{
+    if check::first_fault(table, false, s) != 0 {
+        return Opened::Wrong;
+    }
+    let Date::Day(day) = calendar::day_in(date(s)) else {
+        return Opened::Wrong;
+    };
+    let Turn::Cycle(cycle) = counter::cycle_in(text::part_of(s, CYCLE_AT, CYCLE_SIZE)) else {
+        return Opened::Wrong;
+    };
+    Opened::Header(Header { day, cycle })
+}
+
+// Whether a trailer has the date and the name of its header.
+fn is_same_frame(header: &[u8], trailer: &[u8]) -> bool
+    ensures { λ r. ⌜ r ≡ sameFrame (now (header .entry)) (now (trailer .entry)) ⌝ }
+{
+    text::same(date(header), date(trailer)) & text::same(name(header), name(trailer))
+}
+
+// The record count of a trailer, or that it is wrong: in itself, or beside its header.
+pub fn trailer_in(table: &[usize], header: &[u8], s: &[u8]) -> Closed
+    ensures { λ r. ⌜ r ≡ trailerOf (now (table .entry)) (now (header .entry)) (now (s .entry)) ⌝ }
+{
+    if check::first_fault(table, false, s) != 0 {
+        return Closed::Wrong;
+    }
+    if is_same_frame(header, s) {
+        let Tally::Count(count) = counter::count_in(text::part_of(s, COUNT_AT, COUNT_SIZE)) else {
+            return Closed::Wrong;
+        };
+        return Closed::Trailer(count);
+    }
+    Closed::Wrong
+}

@@ -1,0 +1,7 @@
+// The lines of a file: data record, guide row, header and trailer. Their tables of fields, the rules of the fields, and what is
+// read from a line and written into it.
+pub mod check;
+pub mod counter;
+pub mod field;
+pub mod frame;
+pub mod table;

@@ -1,0 +1,356 @@
+// 01, "Layouts": where each field of a line starts (from 1), how many bytes it has, and the rule that it keeps. Reading, checking
+// and writing all use these tables: no position stands anywhere else.
+ghost use mathlib.Core.Path.{_≡_};
+ghost use Rattle.layout.specs.Tables.{dataRecord, guideRow, header, trailer};
+
+// Any printable bytes.
+pub const FREE: usize = 1;
+
+// Left-justified: blank, or the first byte is no space.
+pub const TEXT: usize = 2;
+
+// The same, and blank only in D and U.
+pub const NAMED: usize = 3;
+
+// C, D, I, U or M.
+pub const CODE: usize = 4;
+
+// All digits.
+pub const DIGITS: usize = 5;
+
+// Blank, or 1 to 8 digits.
+pub const HOUSE: usize = 6;
+
+// Blank or N S E W NE NW SE SW.
+pub const DIRECTION: usize = 7;
+
+// A digit; blank only in D and U.
+pub const ONE_DIGIT: usize = 8;
+
+// 0 to 5; blank only in D and U.
+pub const ZERO_TO_FIVE: usize = 9;
+
+// Capitals; blank only in D and U.
+pub const CAPITALS: usize = 10;
+
+// A space or `C`.
+pub const SPACE_OR_C: usize = 11;
+
+// Blank, or 1 to 5 digits.
+pub const ZONE: usize = 12;
+
+// 1 to 5 capitals and digits.
+pub const COMPANY_LETTERS: usize = 13;
+
+// A date.
+pub const MMDDYY: usize = 14;
+
+// `*`.
+pub const STAR: usize = 15;
+
+// 1 to 8 digits.
+pub const LOW_END: usize = 16;
+
+// 1 to 8 digits, no less than Low.
+pub const HIGH_END: usize = 17;
+
+// `O`, `E` or `B`, and both ends are of it.
+pub const PARITY_LETTER: usize = 18;
+
+// 1 to 5 digits.
+pub const ROW_ZONE: usize = 19;
+
+// `I` or `D`.
+pub const ROW_CODE: usize = 20;
+
+// `UHL` and two spaces.
+pub const OPENING: usize = 21;
+
+// `UTL` and two spaces.
+pub const CLOSING: usize = 22;
+
+// A cycle.
+pub const TURN: usize = 23;
+
+// A record count.
+pub const TALLY: usize = 24;
+
+// The data record, 512 bytes.
+pub const RECORD: [usize; 111] = [
+    1, // Function
+    1,
+    CODE,
+    2, // NPA
+    3,
+    DIGITS,
+    5, // Calling Number
+    7,
+    DIGITS,
+    12, // House Number
+    10,
+    HOUSE,
+    22, // House Suffix
+    4,
+    TEXT,
+    26, // Prefix Directional
+    2,
+    DIRECTION,
+    28, // Street Name
+    60,
+    NAMED,
+    88, // Street Suffix
+    4,
+    TEXT,
+    92, // Post Directional
+    2,
+    DIRECTION,
+    94, // Community
+    32,
+    NAMED,
+    126, // State
+    2,
+    CAPITALS,
+    128, // Location
+    60,
+    TEXT,
+    188, // Customer Name
+    32,
+    TEXT,
+    220, // Class
+    1,
+    ONE_DIGIT,
+    221, // Type
+    1,
+    ZERO_TO_FIVE,
+    222, // Exchange
+    4,
+    TEXT,
+    226, // ESN
+    5,
+    ZONE,
+    231, // Main NPA
+    3,
+    TEXT,
+    234, // Main Number
+    7,
+    TEXT,
+    241, // Order
+    10,
+    TEXT,
+    251, // Date
+    6,
+    MMDDYY,
+    257, // County
+    4,
+    TEXT,
+    261, // Company ID
+    5,
+    COMPANY_LETTERS,
+    266, // Source
+    1,
+    SPACE_OR_C,
+    267, // Zip
+    5,
+    TEXT,
+    272, // Zip+4
+    4,
+    TEXT,
+    276, // General Use
+    11,
+    FREE,
+    287, // Customer Code
+    3,
+    TEXT,
+    290, // Comments
+    30,
+    TEXT,
+    320, // X
+    9,
+    TEXT,
+    329, // Y
+    9,
+    TEXT,
+    338, // Z
+    5,
+    TEXT,
+    343, // Cell
+    6,
+    TEXT,
+    349, // Sector
+    1,
+    TEXT,
+    350, // TAR
+    6,
+    TEXT,
+    356, // Reserved
+    156,
+    FREE,
+    512, // `*`
+    1,
+    STAR,
+];
+
+// The guide row, 200 bytes.
+pub const ROW: [usize; 39] = [
+    1, // Prefix
+    2,
+    DIRECTION,
+    3, // Street
+    60,
+    NAMED,
+    63, // Suffix
+    4,
+    TEXT,
+    67, // Post
+    2,
+    DIRECTION,
+    69, // Low
+    10,
+    LOW_END,
+    79, // High
+    10,
+    HIGH_END,
+    89, // Community
+    32,
+    NAMED,
+    121, // State
+    2,
+    CAPITALS,
+    123, // parity
+    1,
+    PARITY_LETTER,
+    124, // ESN
+    5,
+    ROW_ZONE,
+    129, // free
+    70,
+    FREE,
+    199, // Function
+    1,
+    ROW_CODE,
+    200, // `*`
+    1,
+    STAR,
+];
+
+// The header, 200 bytes.
+pub const HEADER: [usize; 18] = [
+    1, // `UHL` and two spaces
+    5,
+    OPENING,
+    6, // date
+    6,
+    MMDDYY,
+    12, // company name
+    50,
+    NAMED,
+    62, // cycle
+    6,
+    TURN,
+    68, // free
+    132,
+    FREE,
+    200, // `*`
+    1,
+    STAR,
+];
+
+// The trailer, 200 bytes.
+pub const TRAILER: [usize; 18] = [
+    1, // `UTL` and two spaces
+    5,
+    CLOSING,
+    6, // date
+    6,
+    MMDDYY,
+    12, // name
+    50,
+    NAMED,
+    62, // record count
+    9,
+    TALLY,
+    71, // free
+    129,
+    FREE,
+    200, // `*`
+    1,
+    STAR,
+];
+
+// The code's own tables are the definition's, which are shown to tile their lines.
+pub fn data_record() -> [usize; 111]
+    ensures { λ r. ⌜ r ≡ dataRecord ⌝ }
+{
+    RECORD
+}
+
+pub fn guide_row() -> [usize; 39]
+    ensures { λ r. ⌜ r ≡ guideRow ⌝ }
+{
+    ROW
+}
+
+pub fn header() -> [usize; 18]
+    ensures { λ r. ⌜ r ≡ header ⌝ }
+{
+    HEADER
+}
+
+pub fn trailer() -> [usize; 18]
+    ensures { λ r. ⌜ r ≡ trailer ⌝ }
+{
+    TRAILER
+}
+
+// Fields by their places in the tables, from 0: those of the data record,
+pub const FUNCTION: usize = 0;
+
+pub const NPA: usize = 1;
+
+pub const CALLING_NUMBER: usize = 2;
+
+pub const HOUSE_NUMBER: usize = 3;
+
+pub const PREFIX: usize = 5;
+
+pub const POST: usize = 8;
+
+pub const COMMUNITY: usize = 9;
+
+pub const STATE: usize = 10;
+
+pub const ESN: usize = 16;
+
+pub const DATE: usize = 20;
+
+pub const COMPANY_ID: usize = 22;
+
+pub const SOURCE: usize = 23;
+
+// those of the guide row,
+pub const ROW_PREFIX: usize = 0;
+
+pub const ROW_POST: usize = 3;
+
+pub const LOW: usize = 4;
+
+pub const HIGH: usize = 5;
+
+pub const ROW_COMMUNITY: usize = 6;
+
+pub const ROW_STATE: usize = 7;
+
+pub const PARITY: usize = 8;
+
+pub const ROW_ESN: usize = 9;
+
+pub const ROW_FUNCTION: usize = 11;
+
+// and those of header and trailer.
+pub const FRAME_DATE: usize = 1;
+
+pub const NAME: usize = 2;
+
+pub const CYCLE: usize = 3;
+
+pub const COUNT: usize = 3;
