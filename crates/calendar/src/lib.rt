@@ -10,6 +10,9 @@ use text::Spelled;
 // A day number. It is made only where a date field or the four bytes of a slot are read.
 pub struct Day(u32);
 
+// A day number in a slot, the high byte first.
+pub type DayBytes = [u8; 4];
+
 // What six bytes name.
 pub enum Date {
     Day(Day),
@@ -111,7 +114,7 @@ impl Day {
     }
 
     // The four bytes of a day in a slot.
-    pub fn bytes(self) -> [u8; 4]
+    pub fn bytes(self) -> DayBytes
         ensures { λ r. ⌜ r ≡ dayBytes self ⌝ }
     {
         let n = self.0;

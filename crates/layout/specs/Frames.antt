@@ -9,6 +9,7 @@ use Rattle.calendar.specs.Calendar.{dayOf, onDay}
 use Rattle.layout.specs.Tables.{header, trailer, field, frameDate, name, cycle, count}
 use Rattle.layout.specs.Counters.{cycleOf, onCycle, countOf, onCount}
 use Rattle.layout.specs.Rules.{faultIn}
+use Rattle.layout.specs.declared.counter.Count.{Count}
 use Rattle.layout.specs.declared.frame.Header.{Header}
 use Rattle.layout.specs.declared.frame.Opened.{Opened}
 use Rattle.layout.specs.declared.frame.Opened.the-variants.{Header as aHeader, Wrong as noHeader}
@@ -21,6 +22,15 @@ dateOf s = field header frameDate s
 
 unfoldable pub nameOf : List ℕ → List ℕ
 nameOf s = field header name s
+
+-- what is made of a header or a trailer, or what stands where it is wrong
+abbrev pub onHeader : {A : Type 0} → Opened → A → (Header → A) → A
+onHeader (aHeader h) other k = k h
+onHeader noHeader other k = other
+
+abbrev pub onTrailer : {A : Type 0} → Closed → A → (Count → A) → A
+onTrailer (aTrailer c) other k = k c
+onTrailer noTrailer other k = other
 
 -- a header by table t: each field keeps its rule; its day and its cycle
 unfoldable pub headerOf : List ℕ → List ℕ → Opened

@@ -278,25 +278,31 @@ pub const TRAILER: [usize; 18] = [
 ];
 
 // The code's own tables are the definition's, which are shown to tile their lines.
-pub fn data_record() -> [usize; 111]
+pub type RecordTable = [usize; 111];
+
+pub type RowTable = [usize; 39];
+
+pub type FrameTable = [usize; 18];
+
+pub fn data_record() -> RecordTable
     ensures { λ r. ⌜ r ≡ dataRecord ⌝ }
 {
     RECORD
 }
 
-pub fn guide_row() -> [usize; 39]
+pub fn guide_row() -> RowTable
     ensures { λ r. ⌜ r ≡ guideRow ⌝ }
 {
     ROW
 }
 
-pub fn header() -> [usize; 18]
+pub fn header() -> FrameTable
     ensures { λ r. ⌜ r ≡ header ⌝ }
 {
     HEADER
 }
 
-pub fn trailer() -> [usize; 18]
+pub fn trailer() -> FrameTable
     ensures { λ r. ⌜ r ≡ trailer ⌝ }
 {
     TRAILER

@@ -13,7 +13,7 @@ use lib.Dec.{lit≤, eqb, ltb}
 use lib.ListN.{length, take, drop, getD, set, replicate, length-append, length-take, length-drop, length-replicate, replicate-append-replicate, drop-of-length-le}
 use lib.Seq.{drop-cons, take-length, drop-length, take-nil, take-all, drop-drop, set-at, take-at, drop-at, lt-length-set, getD-set-same, drop-set-lt}
 use borrow.Author.Tests.{eqb-true, eq-eqb, ne-eqb, le-leb, lt-leb, lt-ltb, le-ltb}
-use Rattle.text.specs.Text.{inClass, allIn, runOf, digitOf, valueFrom, sameBytes, part, putAt, spaces, digits, widthIn, amongSpaces}
+use Rattle.text.specs.Text.{inClass, runOf, digitOf, valueFrom, sameBytes, part, putAt, spaces, digits, widthIn, amongSpaces}
 use Rattle.text.specs.declared.Class.{Class}
 
 pub and-left : (a b : Bool) → (a && b) ≡ true → a ≡ true
@@ -63,6 +63,14 @@ pub same-refl : (s : List ℕ) → sameBytes s s ≡ true
 same-refl [] = refl
 same-refl (a ∷ s) = rw (eq-eqb a a refl) (same-refl s)
 
+-- parts that differ in one byte are not the same
+pub same-apart : (s t : List ℕ) (i : ℕ) {a b : ℕ} → a ≡ getD s i 0 → b ≡ getD t i 0 → (a ≡ b → ⊥) → false ≡ sameBytes s t
+same-apart s t i {a} {b} p q n = go (sameBytes s t) refl
+  where
+    go : (v : Bool) → sameBytes s t ≡ v → false ≡ v
+    go true e = absurd (n (p ∙ ap (λ x. getD x i 0) (same-true s t e) ∙ sym q))
+    go false e = refl
+
 -- the run of a class: one byte more of it, its end at a byte, its end at the end
 module _ (k : Class) (s : List ℕ) (i : ℕ) {v : ℕ} (inv : i + runOf k (drop i s) ≡ v) where
   pub run-more : i < length s → inClass k (getD s i 0) ≡ true → (i + 1) + runOf k (drop (i + 1) s) ≡ v
@@ -99,17 +107,18 @@ module _ (s t : List ℕ) (i : ℕ) {v : Bool} (inv : sameBytes (drop i s) (drop
   pub same-all : length s ≤ i → length t ≤ i → true ≡ v
   same-all h k = ended (λ x. sameBytes [] x) t i k (ended (λ x. sameBytes x (drop i t)) s i h inv)
 
--- a loop with one way out: the test of what was passed, and of the rest
-pub all-more : (k : Class) (s : List ℕ) (i : ℕ) (a b : Bool) {v : Bool} → i < length s → b ≡ inClass k (getD s i 0)
-    → (a && allIn k (drop i s)) ≡ v → ((a && b) && allIn k (drop (i + 1) s)) ≡ v
-all-more k s i a b h e inv = rw (and-assoc, e) (turn (λ x. a && allIn k x) s i h inv)
-
 and-true : (a : Bool) → (a && true) ≡ a
 and-true true = refl
 and-true false = refl
 
-pub all-done : (k : Class) (s : List ℕ) (i : ℕ) (a : Bool) {v : Bool} → length s ≤ i → (a && allIn k (drop i s)) ≡ v → a ≡ v
-all-done k s i a h inv = sym (and-true a) ∙ ended (λ x. a && allIn k x) s i h inv
+-- a loop with one way out: the test of what was passed, and of the rest
+module _ (t : ℕ → Bool) (f : List ℕ → Bool) (s : List ℕ) (i : ℕ) (a : Bool) {v : Bool} (inv : (a && f (drop i s)) ≡ v) where
+  pub all-more : (b : Bool) → ((x : ℕ) (l : List ℕ) → f (x ∷ l) ≡ (t x && f l)) → i < length s → b ≡ t (getD s i 0)
+      → ((a && b) && f (drop (i + 1) s)) ≡ v
+  all-more b u h e = rw (and-assoc, e) (ap (λ x. a && x) (sym (u (getD s i 0) (drop (i + 1) s))) ∙ turn (λ x. a && f x) s i h inv)
+
+  pub all-done : f [] ≡ true → length s ≤ i → a ≡ v
+  all-done u h = sym (ap (λ x. a && x) u ∙ and-true a) ∙ ended (λ x. a && f x) s i h inv
 
 -- a part that runs past the end
 pub part-short : (s : List ℕ) (i n : ℕ) → length s ≤ i + n → part i n s ≡ drop i s

@@ -28,6 +28,11 @@ abbrev pub allIn : Class → List ℕ → Bool
 allIn k [] = true
 allIn k (b ∷ s) = inClass k b && allIn k s
 
+-- every byte is b
+abbrev pub allEqual : ℕ → List ℕ → Bool
+allEqual b [] = true
+allEqual b (a ∷ s) = eqb a b && allEqual b s
+
 -- blank: every byte is a space
 abbrev pub blank : List ℕ → Bool
 blank s = allIn Space s

@@ -3,7 +3,7 @@
 ghost use mathlib.Core.Path.{_≡_};
 ghost use Prim.Native.Nat.{_+_, _≤_, _<_, _^_};
 ghost use lib.ListN.{length, getD, replicate};
-ghost use Rattle.text.specs.Text.{inClass, allIn, blank, runOf, runsOf, digitOf, valueOf, spelled};
+ghost use Rattle.text.specs.Text.{inClass, allIn, allEqual, blank, runOf, runsOf, digitOf, valueOf, spelled};
 ghost use Rattle.text.specs.Text.{sameBytes, memberOf, allOf, part, putAt, digits, width, amongSpaces, leftDigits, rightDigits};
 
 // The classes of bytes that the field rules name.
@@ -36,6 +36,19 @@ pub fn all_in(f: &[u8], k: Class) -> bool
     let mut i = 0;
     while i < f.len() {
         all = all & in_class(k, f[i]);
+        i += 1;
+    }
+    all
+}
+
+// Whether every byte is b; one way out, as in all_in.
+pub fn all_equal(f: &[u8], b: u8) -> bool
+    ensures { λ r. ⌜ r ≡ allEqual b (now (f .entry)) ⌝ }
+{
+    let mut all = true;
+    let mut i = 0;
+    while i < f.len() {
+        all = all & (f[i] == b);
         i += 1;
     }
     all

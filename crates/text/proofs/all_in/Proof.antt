@@ -4,7 +4,7 @@ use Prim.Native.Nat.{_≤_, _-_}
 use lib.ListN.{length, drop}
 use denote.Ref.{now}
 use borrow.Author.Needs.{needs}
-use Rattle.text.specs.Text.{allIn}
+use Rattle.text.specs.Text.{inClass, allIn}
 use Rattle.text.proofs.Laws.{all-more, all-done}
 use Rattle.text.proofs.all_in.Tie as tie
 use Rattle.text.proofs.all_in.Statement.{statement}
@@ -31,10 +31,13 @@ loop-less : tie.Need-loop-less Inv-loop μ-loop
 loop-less c = search needs
 
 loop-again : tie.Need-loop-again Inv-loop μ-loop
-loop-again c = (search needs, all-more (c .before .before .before .before .before .args .k) (c .before .before .before .before .before .args .f .now) (c .before .before .before .loop .i) (c .before .before .before .loop .all) (c .in-class .result) (c .before .before .loop-test .taken) (c .in-class .ensures) (c .before .before .before .loop .inv .1))
+loop-again c = (
+  search needs,
+  all-more (inClass (c .before .before .before .before .before .args .k)) (allIn (c .before .before .before .before .before .args .k)) (c .before .before .before .before .before .args .f .now) (c .before .before .before .loop .i) (c .before .before .before .loop .all) (c .before .before .before .loop .inv .1) (c .in-class .result) (λ x l. refl) (c .before .before .loop-test .taken) (c .in-class .ensures),
+)
 
 returns : tie.Need-returns Inv-loop μ-loop
-returns c = all-done (c .before .before .before .args .k) (c .before .before .before .args .f .now) (c .before .loop .i) (c .before .loop .all) (c .loop-test .left) (c .before .loop .inv .1)
+returns c = all-done (inClass (c .before .before .before .args .k)) (allIn (c .before .before .before .args .k)) (c .before .before .before .args .f .now) (c .before .loop .i) (c .before .loop .all) (c .before .loop .inv .1) refl (c .loop-test .left)
 
 pub all-in-spec : {M : Type 1} → statement M
 all-in-spec =

@@ -1,0 +1,69 @@
+// What the description's steps answer with. This crate has no function: `specs/` says what taking a file is, in the order and the
+// words of the description, and `proofs/` what follows from that.
+use calendar::Day;
+use layout::frame::Header;
+
+// The kind of a file.
+pub enum Kind {
+    Data,
+    Guide,
+}
+
+// The code of a data record.
+pub enum Code {
+    Insert,
+    Change,
+    Delete,
+    Unlock,
+    Migrate,
+}
+
+// What a step reads off a data record first: its code and its date. A checked record has both.
+pub enum Filed {
+    Record(Code, Day),
+    NoRecord,
+}
+
+// The code of a guide row; a checked row has one.
+pub enum RowCode {
+    Insert,
+    Delete,
+    NoCode,
+}
+
+// The lowest place that passes a test.
+pub enum Found {
+    At(usize),
+    Nothing,
+}
+
+// The same, with the number of places looked at.
+pub struct Sought {
+    pub found: Found,
+    pub looked: usize,
+}
+
+// The number of a refusal; place and position are 0 but in 9.
+pub struct Refusal {
+    pub number: u32,
+    pub place: u32,
+    pub position: u32,
+}
+
+// What the checks of a file say: its header, or why it is refused.
+pub enum Checked {
+    Good(Header),
+    Refused(Refusal),
+}
+
+// What a take returns.
+#[repr(C)]
+pub struct Taken {
+    pub refusal: u32,
+    pub place: u32,
+    pub position: u32,
+    pub records: u32,
+    pub done: u32,
+    pub undone: u32,
+    pub last: u32,
+}

@@ -1,0 +1,76 @@
+use Prim.Native.Nat.{_-_, _/_}
+use lib.ListN.{length}
+use denote.Ref.{now}
+use borrow.Author.Needs.{needs}
+use Rattle.rules.specs.Rows.{clashAt, clashesBy}
+use Rattle.rules.proofs.WalkLaws.{Passed, passed-none, passed-more, passed-hit, passed-all}
+use Rattle.rules.proofs.PlaceLaws.{place-test}
+use Rattle.stores.proofs.guide.find_clash.Tie as tie
+use Rattle.stores.proofs.guide.find_clash.Statement.{statement}
+
+abbrev Inv-loop : tie.InvT-loop
+Inv-loop guide g n i₀ i = Passed (clashAt g guide) n i
+
+abbrev μ-loop : tie.MeasureT-loop
+μ-loop guide g n i₀ i = n - i
+
+loop-holds : tie.Need-loop-holds Inv-loop μ-loop
+loop-holds c = passed-none _ _
+
+mul-a : tie.Need-mul-a Inv-loop μ-loop
+mul-a c = search needs
+
+add-e : tie.Need-add-e Inv-loop μ-loop
+add-e c = search needs
+
+sub-does-clash : tie.Need-sub-does-clash Inv-loop μ-loop
+sub-does-clash c = search needs
+
+part-does-clash-start : tie.Need-part-does-clash-start Inv-loop μ-loop
+part-does-clash-start c = search needs
+
+part-does-clash-end : tie.Need-part-does-clash-end Inv-loop μ-loop
+part-does-clash-end c = search needs
+
+does-clash-requires : tie.Need-does-clash-requires Inv-loop μ-loop
+does-clash-requires c κs = search needs
+
+add-t15 : tie.Need-add-t15 Inv-loop μ-loop
+add-t15 c = search needs
+
+returns : tie.Need-returns Inv-loop μ-loop
+unfolding clashAt
+returns c = passed-hit (clashAt (c .before .before .before .before .before .before .before .args .g .now) (c .before .before .before .before .before .before .before .args .guide .now)) (length (c .before .before .before .before .before .before .before .args .guide .now) / 208) (c .before .before .before .before .loop .i) (c .before .before .before .before .loop .inv) (c .before .before .before .loop-test .taken) (place-test 208 (clashesBy (c .before .before .before .before .before .before .before .args .g .now)) (c .before .before .before .before .before .before .before .args .guide .now) (c .before .before .before .before .loop .i) (c .before .does-clash .ensures) (c .if1 .taken))
+
+add-i : tie.Need-add-i Inv-loop μ-loop
+add-i c = search needs
+
+loop-less : tie.Need-loop-less Inv-loop μ-loop
+loop-less c = search needs
+
+loop-again : tie.Need-loop-again Inv-loop μ-loop
+unfolding clashAt
+loop-again c = passed-more (clashAt (c .before .before .before .before .before .before .before .args .g .now) (c .before .before .before .before .before .before .before .args .guide .now)) (length (c .before .before .before .before .before .before .before .args .guide .now) / 208) (c .before .before .before .before .loop .i) (c .before .before .before .before .loop .inv) (c .before .before .before .loop-test .taken) (place-test 208 (clashesBy (c .before .before .before .before .before .before .before .args .g .now)) (c .before .before .before .before .before .before .before .args .guide .now) (c .before .before .before .before .loop .i) (c .before .does-clash .ensures) (c .if1 .left))
+
+returns-2 : tie.Need-returns-2 Inv-loop μ-loop
+returns-2 c = passed-all (clashAt (c .before .before .before .before .args .g .now) (c .before .before .before .before .args .guide .now)) (length (c .before .before .before .before .args .guide .now) / 208) (c .before .loop .i) (c .before .loop .inv) (c .loop-test .left)
+
+pub find-clash-spec : {M : Type 1} → statement M
+find-clash-spec =
+    tie.close
+    (tie.spec
+    Inv-loop
+    μ-loop
+    loop-holds
+    mul-a
+    add-e
+    sub-does-clash
+    part-does-clash-start
+    part-does-clash-end
+    does-clash-requires
+    add-t15
+    returns
+    add-i
+    loop-less
+    loop-again
+    returns-2)

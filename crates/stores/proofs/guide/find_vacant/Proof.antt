@@ -1,0 +1,77 @@
+use Prim.Native.Nat.{_-_, _/_}
+use lib.ListN.{length}
+use denote.Ref.{now}
+use borrow.Author.Needs.{needs}
+use Rattle.rules.specs.Rows.{vacantAt}
+use Rattle.rules.specs.Slots.{isVacant}
+use Rattle.rules.proofs.WalkLaws.{Passed, passed-none, passed-more, passed-hit, passed-all}
+use Rattle.rules.proofs.PlaceLaws.{place-test}
+use Rattle.stores.proofs.guide.find_vacant.Tie as tie
+use Rattle.stores.proofs.guide.find_vacant.Statement.{statement}
+
+abbrev Inv-loop : tie.InvT-loop
+Inv-loop guide n i₀ i = Passed (vacantAt guide) n i
+
+abbrev μ-loop : tie.MeasureT-loop
+μ-loop guide n i₀ i = n - i
+
+loop-holds : tie.Need-loop-holds Inv-loop μ-loop
+loop-holds c = passed-none _ _
+
+mul-a : tie.Need-mul-a Inv-loop μ-loop
+mul-a c = search needs
+
+add-e : tie.Need-add-e Inv-loop μ-loop
+add-e c = search needs
+
+sub-is-vacant : tie.Need-sub-is-vacant Inv-loop μ-loop
+sub-is-vacant c = search needs
+
+part-is-vacant-start : tie.Need-part-is-vacant-start Inv-loop μ-loop
+part-is-vacant-start c = search needs
+
+part-is-vacant-end : tie.Need-part-is-vacant-end Inv-loop μ-loop
+part-is-vacant-end c = search needs
+
+is-vacant-requires : tie.Need-is-vacant-requires Inv-loop μ-loop
+is-vacant-requires c κs = search needs
+
+add-t14 : tie.Need-add-t14 Inv-loop μ-loop
+add-t14 c = search needs
+
+returns : tie.Need-returns Inv-loop μ-loop
+unfolding vacantAt
+returns c = passed-hit (vacantAt (c .before .before .before .before .before .before .args .guide .now)) (length (c .before .before .before .before .before .before .args .guide .now) / 208) (c .before .before .before .before .loop .i) (c .before .before .before .before .loop .inv) (c .before .before .before .loop-test .taken) (place-test 208 isVacant (c .before .before .before .before .before .before .args .guide .now) (c .before .before .before .before .loop .i) (c .before .is-vacant .ensures) (c .if1 .taken))
+
+add-i : tie.Need-add-i Inv-loop μ-loop
+add-i c = search needs
+
+loop-less : tie.Need-loop-less Inv-loop μ-loop
+loop-less c = search needs
+
+loop-again : tie.Need-loop-again Inv-loop μ-loop
+unfolding vacantAt
+loop-again c = passed-more (vacantAt (c .before .before .before .before .before .before .args .guide .now)) (length (c .before .before .before .before .before .before .args .guide .now) / 208) (c .before .before .before .before .loop .i) (c .before .before .before .before .loop .inv) (c .before .before .before .loop-test .taken) (place-test 208 isVacant (c .before .before .before .before .before .before .args .guide .now) (c .before .before .before .before .loop .i) (c .before .is-vacant .ensures) (c .if1 .left))
+
+returns-2 : tie.Need-returns-2 Inv-loop μ-loop
+returns-2 c = passed-all (vacantAt (c .before .before .before .args .guide .now)) (length (c .before .before .before .args .guide .now) / 208) (c .before .loop .i) (c .before .loop .inv) (c .loop-test .left)
+
+pub find-vacant-spec : {M : Type 1} → statement M
+find-vacant-spec =
+    tie.close
+    (tie.spec
+    Inv-loop
+    μ-loop
+    loop-holds
+    mul-a
+    add-e
+    sub-is-vacant
+    part-is-vacant-start
+    part-is-vacant-end
+    is-vacant-requires
+    add-t14
+    returns
+    add-i
+    loop-less
+    loop-again
+    returns-2)

@@ -1,0 +1,20 @@
+use borrow.Author.Needs.{needs}
+use Rattle.rules.specs.Slots.{written}
+use Rattle.stores.proofs.register.write_slot.Tie as tie
+use Rattle.stores.proofs.register.write_slot.Statement.{statement}
+
+restate-requires : tie.Need-restate-requires
+restate-requires c κs = search needs
+
+put-requires : tie.Need-put-requires
+put-requires c κs = search needs
+
+same-length : tie.Need-same-length
+same-length c = search needs
+
+returns : tie.Need-returns
+unfolding written
+returns c = rw (← c .before .before .before .before .before .before .restate .ensures) (c .before .before .put .ensures)
+
+pub write-slot-spec : {M : Type 1} → statement M
+write-slot-spec = tie.close (tie.spec restate-requires put-requires same-length returns)

@@ -1,0 +1,41 @@
+use mathlib.Core.Path.{_∙_, ap}
+use denote.Ref.{now}
+use borrow.Author.Needs.{needs}
+use borrow.Author.Tests.{eq-eqb, ne-eqb}
+use Rattle.layout.specs.Rules.{recordFault}
+use Rattle.rules.specs.Slots.{fitsSlot}
+use Rattle.stores.proofs.sound.does_fit.Tie as tie
+use Rattle.stores.proofs.sound.does_fit.Statement.{statement}
+
+record-fault-requires : tie.Need-record-fault-requires
+record-fault-requires c κs = search needs
+
+returns : tie.Need-returns
+unfolding fitsSlot
+returns c = let e = c .before .record-fault .ensures ∙ ap (λ t. recordFault t (c .before .before .before .before .args .rec .now)) (c .before .before .before .before .pre) in
+    rw (← e, ne-eqb _ _ (c .if1 .taken))
+
+function-requires : tie.Need-function-requires
+function-requires c κs = search needs
+
+is-entry-code-requires : tie.Need-is-entry-code-requires
+is-entry-code-requires c κs = search needs
+
+has-esn-requires : tie.Need-has-esn-requires
+has-esn-requires c κs = search needs
+
+returns-2 : tie.Need-returns-2
+unfolding fitsSlot
+returns-2 c = let e = c .before .before .before .before .record-fault .ensures ∙ ap (λ t. recordFault t (c .before .before .before .before .before .before .before .args .rec .now)) (c .before .before .before .before .before .before .before .pre) in
+    rw (← e, eq-eqb _ _ (c .before .before .before .if1 .left), ← c .before .before .function .ensures, ← c .before .is-entry-code .ensures, ← c .has-esn .ensures)
+
+pub does-fit-spec : {M : Type 1} → statement M
+does-fit-spec =
+    tie.close
+    (tie.spec
+    record-fault-requires
+    returns
+    function-requires
+    is-entry-code-requires
+    has-esn-requires
+    returns-2)

@@ -1,0 +1,48 @@
+use mathlib.Core.Path.{ap}
+use borrow.Author.Needs.{needs}
+use Rattle.rules.specs.declared.Sought.{Sought}
+use Rattle.rules.specs.Slots.{registerSound}
+use Rattle.stores.proofs.sound.is_register_sound.Tie as tie
+use Rattle.stores.proofs.sound.is_register_sound.Statement.{statement}
+
+is-good-length-requires : tie.Need-is-good-length-requires
+is-good-length-requires c κs = search needs
+
+slice-aggregate-fields : tie.Need-slice-aggregate-fields
+slice-aggregate-fields c = search needs
+
+find-unsound-requires : tie.Need-find-unsound-requires
+find-unsound-requires c κs = search needs
+
+enum-told : tie.Need-enum-told
+enum-told c = search needs
+
+enum-told-2 : tie.Need-enum-told-2
+enum-told-2 c = search needs
+
+returns : tie.Need-returns
+unfolding registerSound
+returns c = let e = ap (λ (x : Sought). x .found) (c .before .before .find-unsound .ensures) in
+    rw (← c .before .before .before .before .before .is-good-length .ensures, c .before .before .before .before .if1 .taken, ← e, c .enum-told2 .given .1)
+
+returns-2 : tie.Need-returns-2
+unfolding registerSound
+returns-2 c = let e = ap (λ (x : Sought). x .found) (c .before .before .find-unsound .ensures) in
+    rw (← c .before .before .before .before .before .is-good-length .ensures, c .before .before .before .before .if1 .taken, ← e, c .enum-told .given .1)
+
+returns-3 : tie.Need-returns-3
+unfolding registerSound
+returns-3 c = rw (← c .before .is-good-length .ensures, c .if1 .left)
+
+pub is-register-sound-spec : {M : Type 1} → statement M
+is-register-sound-spec =
+    tie.close
+    (tie.spec
+    is-good-length-requires
+    slice-aggregate-fields
+    find-unsound-requires
+    enum-told
+    enum-told-2
+    returns
+    returns-2
+    returns-3)

@@ -1,0 +1,172 @@
+// The guide's slots of 208 bytes: what is read from one, the walks over them, and the one place that writes one.
+ghost use mathlib.Core.Path.{_≡_};
+ghost use lib.ListN.{length, replicate};
+ghost use Rattle.rules.specs.Walks.{sought};
+ghost use Rattle.rules.specs.Slots.{rowSlots, isPresent, isVacant, rowOf, rowWritten};
+ghost use Rattle.rules.specs.Records.{coversBy, isOver};
+ghost use Rattle.rules.specs.Rows.{clashesBy, clashAt, vacantAt, isSameBy, sameAt};
+use crate::cover;
+use rules::Found;
+use rules::Sought;
+
+pub const SLOT: usize = 208;
+
+const ROW_AT: usize = 8;
+
+const ROW_SIZE: usize = 200;
+
+pub fn is_present(slot: &[u8]) -> bool
+    ensures { λ r. ⌜ r ≡ isPresent (now (slot .entry)) ⌝ }
+{
+    text::byte_of(slot, 0) == 1
+}
+
+pub fn is_vacant(slot: &[u8]) -> bool
+    ensures { λ r. ⌜ r ≡ isVacant (now (slot .entry)) ⌝ }
+{
+    text::byte_of(slot, 0) == 0
+}
+
+// The row in a slot.
+pub fn row(slot: &[u8]) -> &[u8]
+    ensures { λ r. ⌜ now r ≡ rowOf (now (slot .entry)) ⌝ }
+{
+    text::part_of(slot, ROW_AT, ROW_SIZE)
+}
+
+// A present row that covers a record's address.
+fn is_over(slot: &[u8], rec: &[u8]) -> bool
+    ensures { λ r. ⌜ r ≡ coversBy (now (rec .entry)) (now (slot .entry)) ⌝ }
+{
+    if is_present(slot) {
+        return cover::does_cover(row(slot), rec);
+    }
+    false
+}
+
+// The lowest row over a record's address.
+pub fn find_row(guide: &[u8], rec: &[u8]) -> Sought
+    ensures { λ r. ⌜ r ≡ sought (isOver (now (rec .entry)) (now (guide .entry))) (rowSlots (now (guide .entry))) ⌝ }
+{
+    let n = guide.len() / SLOT;
+    let mut i: usize = 0;
+    while i < n {
+        let a = i * SLOT;
+        let e = a + SLOT;
+        if is_over(&guide[a..e], rec) {
+            return Sought {
+                found: Found::At(i),
+                looked: i + 1,
+            };
+        }
+        i += 1;
+    }
+    Sought {
+        found: Found::Nothing,
+        looked: i,
+    }
+}
+
+// A present row that clashes with another.
+fn does_clash(slot: &[u8], g: &[u8]) -> bool
+    ensures { λ r. ⌜ r ≡ clashesBy (now (g .entry)) (now (slot .entry)) ⌝ }
+{
+    if is_present(slot) {
+        return cover::do_clash(row(slot), g);
+    }
+    false
+}
+
+// The lowest row that clashes with another.
+pub fn find_clash(guide: &[u8], g: &[u8]) -> Sought
+    ensures { λ r. ⌜ r ≡ sought (clashAt (now (g .entry)) (now (guide .entry))) (rowSlots (now (guide .entry))) ⌝ }
+{
+    let n = guide.len() / SLOT;
+    let mut i: usize = 0;
+    while i < n {
+        let a = i * SLOT;
+        let e = a + SLOT;
+        if does_clash(&guide[a..e], g) {
+            return Sought {
+                found: Found::At(i),
+                looked: i + 1,
+            };
+        }
+        i += 1;
+    }
+    Sought {
+        found: Found::Nothing,
+        looked: i,
+    }
+}
+
+// The lowest free guide slot.
+pub fn find_vacant(guide: &[u8]) -> Sought
+    ensures { λ r. ⌜ r ≡ sought (vacantAt (now (guide .entry))) (rowSlots (now (guide .entry))) ⌝ }
+{
+    let n = guide.len() / SLOT;
+    let mut i: usize = 0;
+    while i < n {
+        let a = i * SLOT;
+        let e = a + SLOT;
+        if is_vacant(&guide[a..e]) {
+            return Sought {
+                found: Found::At(i),
+                looked: i + 1,
+            };
+        }
+        i += 1;
+    }
+    Sought {
+        found: Found::Nothing,
+        looked: i,
+    }
+}
+
+// A present row that is the same as another.
+fn is_same(slot: &[u8], g: &[u8]) -> bool
+    ensures { λ r. ⌜ r ≡ isSameBy (now (g .entry)) (now (slot .entry)) ⌝ }
+{
+    if is_present(slot) {
+        return cover::is_same_row(row(slot), g);
+    }
+    false
+}
+
+// The lowest row that is the same as another.
+pub fn find_same(guide: &[u8], g: &[u8]) -> Sought
+    ensures { λ r. ⌜ r ≡ sought (sameAt (now (g .entry)) (now (guide .entry))) (rowSlots (now (guide .entry))) ⌝ }
+{
+    let n = guide.len() / SLOT;
+    let mut i: usize = 0;
+    while i < n {
+        let a = i * SLOT;
+        let e = a + SLOT;
+        if is_same(&guide[a..e], g) {
+            return Sought {
+                found: Found::At(i),
+                looked: i + 1,
+            };
+        }
+        i += 1;
+    }
+    Sought {
+        found: Found::Nothing,
+        looked: i,
+    }
+}
+
+// A row stored in a slot.
+pub fn write_row(slot: &mut [u8], g: &[u8])
+    ensures { λ _. ⌜ now (slot .exit) ≡ rowWritten (now (g .entry)) (now (slot .entry)) ⌝ }
+{
+    text::put(&mut slot[..], 0, b"\x01\x00\x00\x00\x00\x00\x00\x00");
+    text::put(&mut slot[..], ROW_AT, g);
+}
+
+// A slot becomes all zero.
+pub fn clear_row(slot: &mut [u8])
+    ensures { λ _. ⌜ now (slot .exit) ≡ replicate (length (now (slot .entry))) 0 ⌝ }
+{
+    text::fill(&mut slot[..], 0);
+}

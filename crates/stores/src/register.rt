@@ -1,0 +1,214 @@
+// The register's slots of 520 bytes: what is read from one, the walks over them, and the one place that writes one.
+ghost use mathlib.Core.Path.{_≡_};
+ghost use Rattle.rules.specs.Walks.{sought};
+ghost use Rattle.rules.specs.Slots.{slots, stateOf, isUsed, isLive, slotDay, recordOf, slotHead, restated, written};
+ghost use Rattle.rules.specs.Records.{isOf, hasNumber, isFreeSlot, freeAt, isReusable, reusableAt};
+ghost use Rattle.rules.specs.Rows.{isEntryUnder, entryUnder};
+ghost use Rattle.text.specs.Text.{sameBytes};
+use crate::cover;
+use calendar::Day;
+use layout::field;
+use rules::Found;
+use rules::Sought;
+
+pub const SLOT: usize = 520;
+
+const RECORD_AT: usize = 8;
+
+const RECORD_SIZE: usize = 512;
+
+pub fn state(slot: &[u8]) -> u8
+    ensures { λ r. ⌜ r ≡ stateOf (now (slot .entry)) ⌝ }
+{
+    text::byte_of(slot, 0)
+}
+
+// Held, open or resting.
+pub fn is_used(state: u8) -> bool
+    ensures { λ r. ⌜ r ≡ isUsed state ⌝ }
+{
+    (1 <= state) & (state <= 3)
+}
+
+// Held or open.
+pub fn is_live(state: u8) -> bool
+    ensures { λ r. ⌜ r ≡ isLive state ⌝ }
+{
+    (state == 1) | (state == 2)
+}
+
+pub fn day(slot: &[u8]) -> Day
+    ensures { λ r. ⌜ r ≡ slotDay (now (slot .entry)) ⌝ }
+{
+    Day::stored(
+        text::byte_of(slot, 1),
+        text::byte_of(slot, 2),
+        text::byte_of(slot, 3),
+        text::byte_of(slot, 4),
+    )
+}
+
+// The record in a slot.
+pub fn rec(slot: &[u8]) -> &[u8]
+    ensures { λ r. ⌜ now r ≡ recordOf (now (slot .entry)) ⌝ }
+{
+    text::part_of(slot, RECORD_AT, RECORD_SIZE)
+}
+
+// Whether two numbers are the same. Numbers of one area differ in their last digits: those are looked at first.
+fn is_same_number(a: &[u8], b: &[u8]) -> bool
+    ensures { λ r. ⌜ r ≡ sameBytes (now (a .entry)) (now (b .entry)) ⌝ }
+{
+    if text::byte_of(a, 9) != text::byte_of(b, 9) {
+        return false;
+    }
+    if text::byte_of(a, 8) != text::byte_of(b, 8) {
+        return false;
+    }
+    text::same(a, b)
+}
+
+// A used slot with this number.
+fn is_of(slot: &[u8], number: &[u8]) -> bool
+    ensures { λ r. ⌜ r ≡ isOf (now (number .entry)) (now (slot .entry)) ⌝ }
+{
+    if is_used(state(slot)) {
+        return is_same_number(field::number(rec(slot)), number);
+    }
+    false
+}
+
+// The lowest used slot with this number.
+pub fn find_number(register: &[u8], number: &[u8]) -> Sought
+    ensures { λ r. ⌜ r ≡ sought (hasNumber (now (number .entry)) (now (register .entry))) (slots (now (register .entry))) ⌝ }
+{
+    let n = register.len() / SLOT;
+    let mut i: usize = 0;
+    while i < n {
+        let a = i * SLOT;
+        let e = a + SLOT;
+        if is_of(&register[a..e], number) {
+            return Sought {
+                found: Found::At(i),
+                looked: i + 1,
+            };
+        }
+        i += 1;
+    }
+    Sought {
+        found: Found::Nothing,
+        looked: i,
+    }
+}
+
+fn is_free_slot(slot: &[u8]) -> bool
+    ensures { λ r. ⌜ r ≡ isFreeSlot (now (slot .entry)) ⌝ }
+{
+    state(slot) == 0
+}
+
+// The lowest free slot.
+pub fn find_free(register: &[u8]) -> Sought
+    ensures { λ r. ⌜ r ≡ sought (freeAt (now (register .entry))) (slots (now (register .entry))) ⌝ }
+{
+    let n = register.len() / SLOT;
+    let mut i: usize = 0;
+    while i < n {
+        let a = i * SLOT;
+        let e = a + SLOT;
+        if is_free_slot(&register[a..e]) {
+            return Sought {
+                found: Found::At(i),
+                looked: i + 1,
+            };
+        }
+        i += 1;
+    }
+    Sought {
+        found: Found::Nothing,
+        looked: i,
+    }
+}
+
+// A slot that rests for 90 days or more.
+fn may_reuse(slot: &[u8], today: Day) -> bool
+    ensures { λ r. ⌜ r ≡ isReusable today (now (slot .entry)) ⌝ }
+{
+    if state(slot) == 3 {
+        return day(slot).is_past(90, today);
+    }
+    false
+}
+
+// The lowest resting slot that may be used anew.
+pub fn find_reusable(register: &[u8], today: Day) -> Sought
+    ensures { λ r. ⌜ r ≡ sought (reusableAt today (now (register .entry))) (slots (now (register .entry))) ⌝ }
+{
+    let n = register.len() / SLOT;
+    let mut i: usize = 0;
+    while i < n {
+        let a = i * SLOT;
+        let e = a + SLOT;
+        if may_reuse(&register[a..e], today) {
+            return Sought {
+                found: Found::At(i),
+                looked: i + 1,
+            };
+        }
+        i += 1;
+    }
+    Sought {
+        found: Found::Nothing,
+        looked: i,
+    }
+}
+
+// A held or open entry under a row.
+fn is_entry_under(slot: &[u8], row: &[u8]) -> bool
+    ensures { λ r. ⌜ r ≡ isEntryUnder (now (row .entry)) (now (slot .entry)) ⌝ }
+{
+    if is_live(state(slot)) {
+        return cover::does_cover(row, rec(slot));
+    }
+    false
+}
+
+// The lowest held or open entry under a row.
+pub fn find_entry(register: &[u8], row: &[u8]) -> Sought
+    ensures { λ r. ⌜ r ≡ sought (entryUnder (now (row .entry)) (now (register .entry))) (slots (now (register .entry))) ⌝ }
+{
+    let n = register.len() / SLOT;
+    let mut i: usize = 0;
+    while i < n {
+        let a = i * SLOT;
+        let e = a + SLOT;
+        if is_entry_under(&register[a..e], row) {
+            return Sought {
+                found: Found::At(i),
+                looked: i + 1,
+            };
+        }
+        i += 1;
+    }
+    Sought {
+        found: Found::Nothing,
+        looked: i,
+    }
+}
+
+// Another state and day in a slot; the record stays.
+pub fn restate(slot: &mut [u8], state: u8, day: Day)
+    ensures { λ _. ⌜ now (slot .exit) ≡ restated state day (now (slot .entry)) ⌝ }
+{
+    let d = day.bytes();
+    let head = [state, d[0], d[1], d[2], d[3], 0, 0, 0];
+    text::put(&mut slot[..], 0, &head);
+}
+
+// State, day and record of a slot.
+pub fn write_slot(slot: &mut [u8], state: u8, day: Day, rec: &[u8])
+    ensures { λ _. ⌜ now (slot .exit) ≡ written state day (now (rec .entry)) (now (slot .entry)) ⌝ }
+{
+    restate(&mut slot[..], state, day);
+    text::put(&mut slot[..], RECORD_AT, rec);
+}
