@@ -1,5 +1,6 @@
 -- A record whose blank ESN is filled in from a row: its ESN is the row's, and its other fields are as they were.
 -- Assumes nothing.
+-- where the table of fields has the ESN
 use mathlib.Core.Path.{_≡_, refl, sym, ap, _∙_}
 use mathlib.Core.Bool.{Bool, true, false, _||_, not, cond}
 use mathlib.Core.List.{List, _++_}
@@ -11,15 +12,13 @@ use lib.Seq.{take-all, getD-take}
 use borrow.Author.Tests.{leb-true}
 use Rattle.text.specs.Text.{blank, part, putAt}
 use Rattle.calendar.specs.Calendar.{dayOf}
-use Rattle.layout.specs.Tables.{dataRecord, guideRow, startOf, sizeOf, field, span}
-use Rattle.layout.specs.Tables.{function, npa, callingNumber, houseNumber, prefix, post, community, state, esn, date, companyId, rowEsn}
+use Rattle.layout.specs.Tables.{dataRecord, guideRow, startOf, sizeOf, field, span, function, npa, callingNumber, houseNumber, prefix, post, community, state, esn, date, companyId, rowEsn}
 use Rattle.layout.specs.Fields.{functionOf, numberOf, houseIn, houseOf, streetOf, placeOf, esnOf, hasEsn, dateOf, companyOf, rowEsnOf, withEsn}
 use Rattle.rules.specs.Covers.{covers}
 use Rattle.rules.specs.Records.{shown, filedOf}
 use Rattle.rules.proofs.PlaceLaws.{part-length, mid-length, mid-same, mid-before, mid-after}
 use Rattle.rules.proofs.SlotLaws.{Whole, WholeRow, put-is}
 
--- where the table of fields has the ESN
 abbrev pub esnAt : ℕ
 esnAt = startOf dataRecord esn
 
@@ -110,7 +109,7 @@ module _ (g r : List ℕ) (f : WholeRow g) (k : Whole r) where
   -- so its code and date are
   pub filed-with : filedOf (withEsn (rowEsnOf g) r) ≡ filedOf r
   unfolding filedOf
-  filed-with = simp (date-with, function-with)
+  filed-with = simp (whole-with ∙ sym k, date-with, function-with)
 
   -- and the same rows cover it
   pub covers-with : (h : List ℕ) → covers h (withEsn (rowEsnOf g) r) ≡ covers h r

@@ -1,5 +1,6 @@
 -- Slots: what is written into one is read back, the other slots stay, and a store of zeros is sound and has nothing in it.
 -- Assumes nothing.
+-- a data record has 512 bytes, a guide row 200
 use mathlib.Core.Path.{_≡_, refl, sym, ap, _∙_}
 use mathlib.Core.Logic.{_≢_}
 use mathlib.Core.Bool.{Bool, true, false}
@@ -17,12 +18,10 @@ use Rattle.calendar.proofs.DayLaws.{bytes-back}
 use Rattle.rules.specs.declared.Found.{Found}
 use Rattle.rules.specs.declared.Found.the-variants.{At, Nothing}
 use Rattle.rules.specs.Walks.{find}
-use Rattle.rules.specs.Slots.{place, goodLength, slots, slotAt, withSlot, stateOf, slotDay, recordOf, slotHead, slotOf, restated, written, isZero, slotSound, unsoundSlot, registerSound}
-use Rattle.rules.specs.Slots.{rowSlots, rowSlotAt, withRowSlot, isPresent, isVacant, rowOf, rowHead, rowSlotOf, rowWritten, freeRowSlot, rowSlotSound, unsoundRowSlot, guideSound}
+use Rattle.rules.specs.Slots.{place, goodLength, slots, slotAt, withSlot, stateOf, slotDay, recordOf, slotHead, slotOf, restated, written, isZero, slotSound, unsoundSlot, registerSound, rowSlots, rowSlotAt, withRowSlot, isPresent, isVacant, rowOf, rowHead, rowSlotOf, rowWritten, freeRowSlot, rowSlotSound, unsoundRowSlot, guideSound}
 use Rattle.rules.proofs.WalkLaws.{find-some, clash-bool, and-both}
 use Rattle.rules.proofs.PlaceLaws.{part-length, place-same, place-other, place-length}
 
--- a data record has 512 bytes, a guide row 200
 abbrev pub Whole : List ℕ → Type 0
 Whole r = length r ≡ 512
 

@@ -1,5 +1,7 @@
 -- What an accepted record or row did, in a form to reason from: where it went, what stands there now, and why that was allowed.
 -- Assumes nothing.
+-- ---- codes and states
+-- the codes that a state takes
 use mathlib.Core.Path.{_≡_, refl, _∙_}
 use mathlib.Core.Logic.{_⊎_, inl, inr, _≢_}
 use mathlib.Core.Bool.{Bool, true, false, not, _&&_, _||_, cond}
@@ -20,17 +22,12 @@ use Rattle.rules.specs.declared.RowCode.the-variants.{Insert as InsertRo
 use Rattle.rules.specs.declared.Found.{Found}
 use Rattle.rules.specs.declared.Found.the-variants.{At, Nothing}
 use Rattle.rules.specs.Walks.{find, orElse, isNothing, onFound}
-use Rattle.rules.specs.Slots.{slots, slotAt, withSlot, stateOf, slotDay, recordOf, slotOf, isFree, isHeld, isOpen, isResting, isUsed, isLive}
-use Rattle.rules.specs.Slots.{rowSlots, rowSlotAt, withRowSlot, isPresent, isVacant, rowOf, rowSlotOf, freeRowSlot}
+use Rattle.rules.specs.Slots.{slots, slotAt, withSlot, stateOf, slotDay, recordOf, slotOf, isFree, isHeld, isOpen, isResting, isUsed, isLive, rowSlots, rowSlotAt, withRowSlot, isPresent, isVacant, rowOf, rowSlotOf, freeRowSlot}
 use Rattle.rules.specs.Covers.{covers, clash, sameRow}
-use Rattle.rules.specs.Records.{isInsert, isMigrate, stores, isOwn, stateAfter, hasNumber, findNumber, isOver, findRow, freeAt, isReusable, reusableAt, findFree, findReusable, findSpare}
-use Rattle.rules.specs.Records.{tooEarly, otherEsn, table, answerOf, shown, shownUnder, slotAfter, registerAfter}
+use Rattle.rules.specs.Records.{isInsert, isMigrate, stores, isOwn, stateAfter, hasNumber, findNumber, isOver, findRow, freeAt, isReusable, reusableAt, findFree, findReusable, findSpare, tooEarly, otherEsn, table, answerOf, shown, shownUnder, slotAfter, registerAfter}
 use Rattle.rules.specs.Rows.{clashAt, findClash, vacantAt, findVacant, sameAt, findSame, entryUnder, findEntry, insertTable, deleteTable, rowAnswerOf, guideAfter}
 use Rattle.rules.proofs.WalkLaws.{clash-bool, and-both, and-rest, not-false, find-some, find-none, AllFail, positive, first-zero}
 
--- ---- codes and states
-
--- the codes that a state takes
 abbrev pub allowed : Code → ℕ → Bool
 allowed Insert b = not (isLive b)
 allowed Change b = isHeld b

@@ -1,24 +1,22 @@
 -- Laws of the walk, of counts, and of a table whose first hit decides.
 -- Assumes nothing.
-use mathlib.Core.Path.{_≡_, refl, sym, ap, _∙_, subst}
+-- ---- tests
+-- a test's value, with the equation
+use mathlib.Core.Path.{_≡_, refl, sym, _∙_, subst}
 use mathlib.Core.Logic.{_⊎_, inl, inr, _≢_}
-use mathlib.Core.Bool.{Bool, true, false, not, _&&_, _||_, cond, true≢false}
-use mathlib.Core.List.{List, [], _∷_}
+use mathlib.Core.Bool.{Bool, true, false, not, _&&_, cond, true≢false}
+use mathlib.Core.List.{List, [], _∷_, _++_}
 use Prim.Native.Nat.{ℕ, zero, suc, _+_, _≤_, _<_}
 use native.Mathlib.Nat.{not-suc-le-zero, lt-irrefl}
 use native.Mathlib.Decide.{ℕ-discrete, decLt}
 use native.Mathlib.Numerals.{add-one}
 use native.Mathlib.Omega.{arith}
 use lib.Dec.{eqb, ltb}
-use borrow.Author.Tests.{ltb-true}
+use borrow.Author.Tests.{ltb-true, ne-eqb}
 use Rattle.rules.specs.declared.Found.{Found}
 use Rattle.rules.specs.declared.Found.the-variants.{At, Nothing}
-use Rattle.rules.specs.declared.Sought.{Sought}
-use Rattle.rules.specs.Walks.{orElse, isNothing, find, walked, sought, count, first}
+use Rattle.rules.specs.Walks.{orElse, find, walked, sought, count, first}
 
--- ---- tests
-
--- a test's value, with the equation
 pub decided : (b : Bool) → (b ≡ true) ⊎ (b ≡ false)
 decided true = inl refl
 decided false = inr refl
@@ -172,3 +170,16 @@ first-zero (h ∷ t) p e = go (λ f. first-zero t (and-second (ltb 0 (h .1)) (po
     go : (first t ≡ 0 → AllFail t) → (b : Bool) → h .0 ≡ b → cond b (h .1) (first t) ≡ 0 → (h .0 ≡ false) × AllFail t
     go ih true q e = absurd (lt-irrefl 0 (subst (λ (n : ℕ). 0 < n) e (ltb-true 0 (h .1) (and-first (ltb 0 (h .1)) (positive t) p))))
     go ih false q e = (q, ih e)
+
+-- two tables, one after the other
+pub first-append : (a b : List (Bool × ℕ)) → positive a ≡ true → first (a ++ b) ≡ cond (eqb (first a) 0) (first b) (first a)
+unfolding first positive
+first-append [] b p = refl
+first-append (h ∷ t) b p = go (first-append t b (and-second (ltb 0 (h .1)) (positive t) p)) (h .0)
+  where
+    go : first (t ++ b) ≡ cond (eqb (first t) 0) (first b) (first t) → (v : Bool)
+        → cond v (h .1) (first (t ++ b)) ≡ cond (eqb (cond v (h .1) (first t)) 0) (first b) (cond v (h .1) (first t))
+    go ih true =
+        let q = ltb-true 0 (h .1) (and-first (ltb 0 (h .1)) (positive t) p) in
+        rw (ne-eqb (h .1) 0 (λ e. omega arith))
+    go ih false = ih

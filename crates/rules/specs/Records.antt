@@ -4,6 +4,7 @@ use Prim.Native.Nat.{ℕ}
 use mathlib.Core.List.{List, [], _∷_}
 use mathlib.Core.Bool.{Bool, true, false, _&&_, not, cond}
 use lib.Dec.{eqb}
+use lib.ListN.{length}
 use Rattle.text.specs.Text.{sameBytes}
 use Rattle.calendar.specs.declared.Day.{Day}
 use Rattle.calendar.specs.Calendar.{onDay, isBefore, isPast}
@@ -21,16 +22,19 @@ use Rattle.rules.specs.Covers.{covers}
 
 -- ---- codes
 
--- a record's code and date; a record of good form has both
+-- the code that a byte names
+abbrev pub codedOf : ℕ → Day → Filed
+codedOf b d =
+    cond (eqb b 73) (Record Insert d)
+    (cond (eqb b 67) (Record Change d)
+    (cond (eqb b 68) (Record Delete d)
+    (cond (eqb b 85) (Record Unlock d)
+    (cond (eqb b 77) (Record Migrate d)
+    NoRecord))))
+
+-- the code and the date of a record of 512 bytes; one of good form has both
 unfoldable pub filedOf : List ℕ → Filed
-filedOf r =
-    onDay (dateOf r) NoRecord (λ d.
-    cond (eqb (functionOf r) 73) (Record Insert d)
-    (cond (eqb (functionOf r) 67) (Record Change d)
-    (cond (eqb (functionOf r) 68) (Record Delete d)
-    (cond (eqb (functionOf r) 85) (Record Unlock d)
-    (cond (eqb (functionOf r) 77) (Record Migrate d)
-    NoRecord)))))
+filedOf r = cond (eqb (length r) 512) (onDay (dateOf r) NoRecord (λ d. codedOf (functionOf r) d)) NoRecord
 
 abbrev pub isInsert : Code → Bool
 isInsert Insert = true

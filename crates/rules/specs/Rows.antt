@@ -4,6 +4,7 @@ use Prim.Native.Nat.{ℕ}
 use mathlib.Core.List.{List, [], _∷_}
 use mathlib.Core.Bool.{Bool, true, false, _&&_, not, cond}
 use lib.Dec.{eqb}
+use lib.ListN.{length}
 use Rattle.layout.specs.declared.frame.Header.{Header}
 use Rattle.layout.specs.Fields.{rowFunctionOf}
 use Rattle.rules.specs.declared.RowCode.{RowCode}
@@ -13,9 +14,10 @@ use Rattle.rules.specs.Walks.{find, first, isNothing, onFound}
 use Rattle.rules.specs.Slots.{slots, slotAt, stateOf, recordOf, isLive, rowSlots, rowSlotAt, withRowSlot, isPresent, isVacant, rowOf, rowSlotOf, freeRowSlot}
 use Rattle.rules.specs.Covers.{covers, clash, sameRow}
 
--- a row's code; a row of good form has one
+-- the code of a row of 200 bytes; one of good form has it
 unfoldable pub rowCodeOf : List ℕ → RowCode
-rowCodeOf g = cond (eqb (rowFunctionOf g) 73) Insert (cond (eqb (rowFunctionOf g) 68) Delete NoCode)
+rowCodeOf g =
+    cond (eqb (length g) 200) (cond (eqb (rowFunctionOf g) 73) Insert (cond (eqb (rowFunctionOf g) 68) Delete NoCode)) NoCode
 
 -- ---- what is looked for
 

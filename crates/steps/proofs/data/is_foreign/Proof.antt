@@ -1,0 +1,22 @@
+use denote.Ref.{now}
+use borrow.Author.Needs.{needs}
+use Rattle.steps.proofs.DecideLaws.{and-taken, and-left-out}
+use Rattle.rules.specs.Records.{isOwn, otherCompany}
+use Rattle.rules.specs.Slots.{isHeld}
+use Rattle.steps.proofs.data.is_foreign.Tie as tie
+use Rattle.steps.proofs.data.is_foreign.Statement.{statement}
+
+is-own-requires : tie.Need-is-own-requires
+is-own-requires c κs = search needs
+
+is-other-company-requires : tie.Need-is-other-company-requires
+is-other-company-requires c κs = search needs
+
+returns : tie.Need-returns
+returns c = and-taken (isOwn (c .before .before .before .before .before .args .c)) (isHeld (c .before .before .before .before .before .args .state)) (otherCompany (c .before .before .before .before .before .args .register .now) (c .before .before .before .before .before .args .m) (c .before .before .before .before .before .args .rec .now)) (rw (← c .before .before .is-own .ensures) (c .before .if1 .taken)) (c .is-other-company .ensures)
+
+returns-2 : tie.Need-returns-2
+returns-2 c = and-left-out (isOwn (c .before .before .before .before .args .c)) (isHeld (c .before .before .before .before .args .state)) (otherCompany (c .before .before .before .before .args .register .now) (c .before .before .before .before .args .m) (c .before .before .before .before .args .rec .now)) (rw (← c .before .is-own .ensures) (c .if1 .left))
+
+pub is-foreign-spec : {M : Type 1} → statement M
+is-foreign-spec = tie.close (tie.spec is-own-requires is-other-company-requires returns returns-2)

@@ -1,0 +1,52 @@
+use Prim.Native.Nat.{_/_}
+use lib.ListN.{length}
+use denote.Ref.{now}
+use borrow.Author.Needs.{needs}
+use Rattle.steps.proofs.DecideLaws.{below-at}
+use Rattle.steps.proofs.data.is_too_early.Tie as tie
+use Rattle.steps.proofs.data.is_too_early.Statement.{statement}
+
+enum-known-m : tie.Need-enum-known-m
+enum-known-m c = search needs
+
+enum-told : tie.Need-enum-told
+enum-told c = search needs
+
+returns : tie.Need-returns
+returns c = rw (c .enum-told .given .1)
+
+slot-at-requires : tie.Need-slot-at-requires
+slot-at-requires c κs = below-at (length (c .before .before .before .before .args .register .now) / 520) (c .before .before .before .before .args .m) (c .before .m .given .0 .0) (c .before .m .given .1) (c .before .before .before .before .pre)
+
+day-requires : tie.Need-day-requires
+day-requires c κs = search needs
+
+is-insert-requires : tie.Need-is-insert-requires
+is-insert-requires c κs = search needs
+
+is-before-requires : tie.Need-is-before-requires
+is-before-requires c κs = search needs
+
+returns-2 : tie.Need-returns-2
+returns-2 c = rw (c .before .before .before .before .before .before .m .given .1, ← c .before .before .before .before .slot-at .ensures, ← c .before .before .before .day .ensures, ← c .before .before .is-insert .ensures, c .before .if1 .taken, ← c .is-before .ensures)
+
+is-before-requires-2 : tie.Need-is-before-requires-2
+is-before-requires-2 c κs = search needs
+
+returns-3 : tie.Need-returns-3
+returns-3 c = rw (c .before .before .before .before .before .before .m .given .1, ← c .before .before .before .before .slot-at .ensures, ← c .before .before .before .day .ensures, ← c .before .before .is-insert .ensures, c .before .if1 .left) (c .is-before2 .ensures)
+
+pub is-too-early-spec : {M : Type 1} → statement M
+is-too-early-spec =
+    tie.close
+    (tie.spec
+    enum-known-m
+    enum-told
+    returns
+    slot-at-requires
+    day-requires
+    is-insert-requires
+    is-before-requires
+    returns-2
+    is-before-requires-2
+    returns-3)

@@ -1,0 +1,50 @@
+use borrow.Author.Needs.{needs}
+use Rattle.rules.specs.Walks.{first}
+use Rattle.steps.proofs.data.state_answer.Tie as tie
+use Rattle.steps.proofs.data.state_answer.Statement.{statement}
+
+is-insert-requires : tie.Need-is-insert-requires
+is-insert-requires c κs = search needs
+
+is-live-requires : tie.Need-is-live-requires
+is-live-requires c κs = search needs
+
+returns : tie.Need-returns
+unfolding first
+returns c = rw (← c .before .before .is-insert .ensures, ← c .before .is-live .ensures, c .if1 .taken)
+
+returns-2 : tie.Need-returns-2
+unfolding first
+returns-2 c = rw (← c .before .before .before .is-insert .ensures, ← c .before .before .is-live .ensures, c .before .if1 .left, c .if2 .taken)
+
+is-migrate-requires : tie.Need-is-migrate-requires
+is-migrate-requires c κs = search needs
+
+returns-3 : tie.Need-returns-3
+unfolding first
+returns-3 c = rw (← c .before .before .before .before .before .is-insert .ensures, ← c .before .before .before .before .is-live .ensures, c .before .before .before .if1 .left, c .before .before .if2 .left, ← c .before .is-migrate .ensures, c .if3 .taken)
+
+is-own-requires : tie.Need-is-own-requires
+is-own-requires c κs = search needs
+
+returns-4 : tie.Need-returns-4
+unfolding first
+returns-4 c = rw (← c .before .before .before .before .before .before .before .is-insert .ensures, ← c .before .before .before .before .before .before .is-live .ensures, c .before .before .before .before .before .if1 .left, c .before .before .before .before .if2 .left, ← c .before .before .before .is-migrate .ensures, c .before .before .if3 .left, ← c .before .is-own .ensures, c .if4 .taken)
+
+returns-5 : tie.Need-returns-5
+unfolding first
+returns-5 c = rw (← c .before .before .before .before .before .before .before .is-insert .ensures, ← c .before .before .before .before .before .before .is-live .ensures, c .before .before .before .before .before .if1 .left, c .before .before .before .before .if2 .left, ← c .before .before .before .is-migrate .ensures, c .before .before .if3 .left, ← c .before .is-own .ensures, c .if4 .left)
+
+pub state-answer-spec : {M : Type 1} → statement M
+state-answer-spec =
+    tie.close
+    (tie.spec
+    is-insert-requires
+    is-live-requires
+    returns
+    returns-2
+    is-migrate-requires
+    returns-3
+    is-own-requires
+    returns-4
+    returns-5)

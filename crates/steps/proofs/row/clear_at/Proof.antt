@@ -1,0 +1,52 @@
+use mathlib.Core.Path.{_∙_, ap}
+use Prim.Native.Nat.{ℕ}
+use lib.ListN.{length, replicate}
+use denote.Ref.{now}
+use borrow.Author.Needs.{needs}
+use Rattle.rules.specs.Slots.{withRowSlot, freeRowSlot}
+use Rattle.rules.proofs.PlaceLaws.{place-back, place-part}
+use Rattle.rules.proofs.SlotLaws.{length-row-slot-at}
+use Rattle.steps.proofs.row.clear_at.Tie as tie
+use Rattle.steps.proofs.row.clear_at.Statement.{statement}
+
+mul-a : tie.Need-mul-a
+mul-a c = search needs
+
+add-e : tie.Need-add-e
+add-e c = search needs
+
+sub-clear-row : tie.Need-sub-clear-row
+sub-clear-row c = search needs
+
+part-clear-row-start : tie.Need-part-clear-row-start
+part-clear-row-start c = search needs
+
+part-clear-row-end : tie.Need-part-clear-row-end
+part-clear-row-end c = search needs
+
+clear-row-requires : tie.Need-clear-row-requires
+clear-row-requires c κs = search needs
+
+same-length : tie.Need-same-length
+same-length c = search needs
+
+returns : tie.Need-returns
+unfolding freeRowSlot
+returns c = place-back 208 (c .before .before .before .before .before .args .guide .now) (c .before .before .before .before .before .args .k) (c .before .before .clear-row .last .0)
+    ∙ ap (withRowSlot (c .before .before .before .before .before .args .guide .now) (c .before .before .before .before .before .args .k))
+    (c .before .before .clear-row .ensures
+    ∙ ap (λ (n : ℕ). replicate n 0)
+    (ap length (place-part 208 (c .before .before .before .before .before .args .guide .now) (c .before .before .before .before .before .args .k)) ∙ length-row-slot-at (c .before .before .before .before .before .args .guide .now) (c .before .before .before .before .before .args .k) (c .before .before .before .before .before .pre)))
+
+pub clear-at-spec : {M : Type 1} → statement M
+clear-at-spec =
+    tie.close
+    (tie.spec
+    mul-a
+    add-e
+    sub-clear-row
+    part-clear-row-start
+    part-clear-row-end
+    clear-row-requires
+    same-length
+    returns)

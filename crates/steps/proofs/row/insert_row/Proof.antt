@@ -1,0 +1,72 @@
+use mathlib.Core.Path.{_∙_, sym, ap}
+use Prim.Native.Nat.{_/_}
+use lib.ListN.{length}
+use denote.Ref.{now}
+use borrow.Author.Needs.{needs}
+use Rattle.rules.specs.declared.Sought.{Sought}
+use Rattle.rules.specs.Walks.{first}
+use Rattle.rules.specs.Rows.{findClash, findVacant, vacantAt}
+use Rattle.steps.specs.Rowing.{rowStep}
+use Rattle.rules.proofs.WalkLaws.{find-some}
+use Rattle.steps.proofs.row.insert_row.Tie as tie
+use Rattle.steps.proofs.row.insert_row.Statement.{statement}
+
+find-clash-requires : tie.Need-find-clash-requires
+find-clash-requires c κs = search needs
+
+enum-told : tie.Need-enum-told
+enum-told c = search needs
+
+enum-told-2 : tie.Need-enum-told-2
+enum-told-2 c = search needs
+
+same-length : tie.Need-same-length
+same-length c = search needs
+
+returns : tie.Need-returns
+unfolding rowStep findClash findVacant first
+returns c = (rw (← (ap (λ (x : Sought). x .found) (c .before .before .find-clash .ensures)), c .enum-told2 .given .1), rw (← (ap (λ (x : Sought). x .found) (c .before .before .find-clash .ensures)), c .enum-told2 .given .1))
+
+find-vacant-requires : tie.Need-find-vacant-requires
+find-vacant-requires c κs = search needs
+
+enum-known-free : tie.Need-enum-known-free
+enum-known-free c = search needs
+
+enum-told-3 : tie.Need-enum-told-3
+enum-told-3 c = search needs
+
+same-length-2 : tie.Need-same-length-2
+same-length-2 c = search needs
+
+returns-2 : tie.Need-returns-2
+unfolding rowStep findClash findVacant first
+returns-2 c = (rw (← (ap (λ (x : Sought). x .found) (c .before .before .before .before .before .before .find-clash .ensures)), c .before .before .before .before .enum-told .given .1, ← (ap (λ (x : Sought). x .found) (c .before .before .find-vacant .ensures)), c .enum-told3 .given .1), rw (← (ap (λ (x : Sought). x .found) (c .before .before .before .before .before .before .find-clash .ensures)), c .before .before .before .before .enum-told .given .1, ← (ap (λ (x : Sought). x .found) (c .before .before .find-vacant .ensures)), c .enum-told3 .given .1))
+
+write-at-requires : tie.Need-write-at-requires
+write-at-requires c κs = (find-some (vacantAt (c .before .before .before .before .before .before .before .before .before .before .before .before .before .args .guide .now)) (length (c .before .before .before .before .before .before .before .before .before .before .before .before .before .args .guide .now) / 208) (c .before .before .free .given .0 .0) (sym (ap (λ (x : Sought). x .found) (c .before .before .before .before .find-vacant .ensures)) ∙ c .before .before .free .given .1) .0, c .before .before .before .before .before .before .before .before .before .before .before .before .before .pre)
+
+same-length-3 : tie.Need-same-length-3
+same-length-3 c = search needs
+
+returns-3 : tie.Need-returns-3
+unfolding rowStep findClash findVacant first
+returns-3 c = (rw (← (ap (λ (x : Sought). x .found) (c .before .before .before .before .before .before .before .before .before .before .before .find-clash .ensures)), c .before .before .before .before .before .before .before .before .before .enum-told .given .1, ← (ap (λ (x : Sought). x .found) (c .before .before .before .before .before .before .before .find-vacant .ensures)), c .before .before .before .before .before .free .given .1), rw (← (ap (λ (x : Sought). x .found) (c .before .before .before .before .before .before .before .before .before .before .before .find-clash .ensures)), c .before .before .before .before .before .before .before .before .before .enum-told .given .1, ← (ap (λ (x : Sought). x .found) (c .before .before .before .before .before .before .before .find-vacant .ensures)), c .before .before .before .before .before .free .given .1) (c .before .before .write-at .ensures))
+
+pub insert-row-spec : {M : Type 1} → statement M
+insert-row-spec =
+    tie.close
+    (tie.spec
+    find-clash-requires
+    enum-told
+    enum-told-2
+    same-length
+    returns
+    find-vacant-requires
+    enum-known-free
+    enum-told-3
+    same-length-2
+    returns-2
+    write-at-requires
+    same-length-3
+    returns-3)
