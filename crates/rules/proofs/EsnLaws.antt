@@ -55,7 +55,7 @@ module _ (g r : List ℕ) (f : WholeRow g) (k : Whole r) where
   esn-with = ap (part esnAt esnSize) with-is ∙ mid-same r (rowEsnOf g) esnAt esnSize room length-row-esn
 
   -- bytes clear of it are as they were: one law for every other field, and for fields that follow one another
-  part-with : (a n : ℕ) → clearOfEsn a n ≡ true → part a n (withEsn (rowEsnOf g) r) ≡ part a n r
+  pub part-with : (a n : ℕ) → clearOfEsn a n ≡ true → part a n (withEsn (rowEsnOf g) r) ≡ part a n r
   part-with a n c = ap (part a n) with-is ∙ go (leb (a + n) esnAt) refl c
     where
       go : (b : Bool) → leb (a + n) esnAt ≡ b → b || leb (esnAt + esnSize) a ≡ true

@@ -5,3 +5,13 @@ pub mod EsnLaws
 pub mod ClashLaws
 pub mod View
 pub mod TakeLaws
+pub mod FaultLaws
+pub mod GoodLaws
+pub mod KeepStores
+pub mod KeepHistory
+pub mod Passing
+pub mod Keep
+pub mod SoundLaws
+pub mod KeepSound
+pub mod Incident
+pub mod Witness

@@ -36,7 +36,7 @@ use Rattle.rules.specs.Walks.{find, onFound}
 use Rattle.rules.specs.Slots.{registerSound, guideSound}
 use Rattle.rules.specs.Records.{filedOf, answerOf, registerAfter, Step, step, applied}
 use Rattle.rules.specs.Rows.{rowCodeOf, rowAnswerOf, guideAfter, rowApplied}
-use Rattle.rules.specs.Takes.{Stores, lineAt, linesIn, goodFile, headerLine, trailerLine, badLine, linesChecked, frameChecked, checked, lineApplied, after, answerAt, answersTo, zerosIn, othersIn, refusedFile, appliedFile, taken}
+use Rattle.rules.specs.Takes.{Stores, lineAt, linesIn, goodFile, headerLine, trailerLine, badLine, linesChecked, trailerChecked, frameChecked, checked, lineApplied, after, answerAt, answersTo, zerosIn, othersIn, refusedFile, appliedFile, taken}
 use Rattle.rules.proofs.View.{Took, took, RowTook, row-took}
 use Rattle.rules.specs.History.{Item, itemOf, historyTo, historyAfter}
 
@@ -171,7 +171,7 @@ unfolding historyTo
 history-out k h f s past i n = rw (ne-eqb (answerAt k h f s i) 0 n)
 
 -- one answer more
-zeros-more : (l : List ℕ) (a : ℕ) → zerosIn (l ++ (a ∷ [])) ≡ zerosIn l + cond (eqb a 0) 1 0
+pub zeros-more : (l : List ℕ) (a : ℕ) → zerosIn (l ++ (a ∷ [])) ≡ zerosIn l + cond (eqb a 0) 1 0
 unfolding zerosIn
 zeros-more [] a = omega arith
 zeros-more (b ∷ l) a = rw (zeros-more l a) (omega arith)
@@ -216,7 +216,7 @@ on-trailer noTrailer x k p q = p
 
 -- so is what the checks of a file say
 numbered : (k : Kind) (s : Stores) (f : List ℕ) (room : ℕ) (last : Cycle) → Numbered (checked k s f room last)
-unfolding checked frameChecked linesChecked
+unfolding checked frameChecked trailerChecked linesChecked
 numbered k s f room last =
     on-test (registerSound (s .register)) _ _
     (on-test (guideSound (s .guide)) _ _

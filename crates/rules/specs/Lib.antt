@@ -6,3 +6,4 @@ pub mod Rows
 pub mod Takes
 pub mod History
 pub mod Cases
+pub mod Demands

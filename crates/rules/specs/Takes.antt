@@ -79,14 +79,17 @@ linesChecked k f h =
     onFound (find (badLine k f) (linesIn k f)) (Good h) (λ i.
     Refused (record { number = 9; place = i + 1; position = lineFault k (lineAt k f i) }))
 
--- 5 to 8, and then the lines
+-- 7 and 8, and then the lines
+unfoldable pub trailerChecked : Kind → List ℕ → Header → Checked
+trailerChecked k f h =
+    onTrailer (trailerOf trailer (headerLine f) (trailerLine f)) (refuse 7) (λ c.
+    cond (isCount c (linesIn k f)) (linesChecked k f h) (refuse 8))
+
+-- 5 and 6, and then the trailer
 unfoldable pub frameChecked : Kind → List ℕ → Cycle → Checked
 frameChecked k f last =
     onHeader (headerOf header (headerLine f)) (refuse 5) (λ h.
-    cond (isNextOf last (h .cycle))
-    (onTrailer (trailerOf trailer (headerLine f) (trailerLine f)) (refuse 7) (λ c.
-    cond (isCount c (linesIn k f)) (linesChecked k f h) (refuse 8)))
-    (refuse 6))
+    cond (isNextOf last (h .cycle)) (trailerChecked k f h) (refuse 6))
 
 -- 1 to 4, and then header, trailer and lines; room is the length of the answers buffer
 unfoldable pub checked : Kind → Stores → List ℕ → ℕ → Cycle → Checked

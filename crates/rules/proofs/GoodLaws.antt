@@ -1,0 +1,134 @@
+-- A file that passes the checks: the stores are sound, each of its lines has its length and keeps the field rules.
+-- Assumes nothing.
+-- what is known of a file that passes
+use mathlib.Core.Path.{_≡_, refl, subst}
+use mathlib.Core.Bool.{Bool, true, false, _&&_, cond}
+use mathlib.Core.List.{List}
+use Prim.Native.Nat.{ℕ, _+_, _*_, _-_, _/_, _%_, _<_}
+use native.Mathlib.Omega.{arith}
+use lib.Dec.{leb, eqb}
+use lib.ListN.{length}
+use borrow.Author.Tests.{eqb-true, leb-true}
+use Rattle.text.proofs.Laws.{and-left, and-right}
+use Rattle.layout.specs.declared.frame.Header.{Header}
+use Rattle.layout.specs.declared.counter.Cycle.{Cycle}
+use Rattle.layout.specs.declared.counter.Count.{Count}
+use Rattle.layout.specs.declared.frame.Opened.{Opened}
+use Rattle.layout.specs.declared.frame.Opened.the-variants.{Header as aHeader, Wrong as noHeader}
+use Rattle.layout.specs.declared.frame.Closed.{Closed}
+use Rattle.layout.specs.declared.frame.Closed.the-variants.{Trailer as aTrailer, Wrong as noTrailer}
+use Rattle.layout.specs.Tables.{header, trailer}
+use Rattle.layout.specs.Counters.{isNextOf, isCount}
+use Rattle.layout.specs.Frames.{headerOf, trailerOf, onHeader, onTrailer}
+use Rattle.rules.specs.declared.Kind.{Kind}
+use Rattle.rules.specs.declared.Kind.the-variants.{Data, Guide}
+use Rattle.rules.specs.declared.Found.{Found}
+use Rattle.rules.specs.declared.Found.the-variants.{At, Nothing}
+use Rattle.rules.specs.declared.Checked.{Checked}
+use Rattle.rules.specs.declared.Checked.the-variants.{Good, Refused}
+use Rattle.rules.specs.Walks.{find, onFound}
+use Rattle.rules.specs.Slots.{registerSound, guideSound}
+use Rattle.rules.specs.Takes.{Stores, lineSize, lineFault, linesIn, goodFile, headerLine, trailerLine, lineAt, refuse, badLine, linesChecked, trailerChecked, frameChecked, checked}
+use Rattle.rules.proofs.WalkLaws.{find-none, not-false}
+use Rattle.rules.proofs.PlaceLaws.{part-length}
+
+pub record GoodFile (k : Kind) (s : Stores) (f : List ℕ) : Type 0 where
+  pub register : registerSound (s .register) ≡ true
+  pub guide : guideSound (s .guide) ≡ true
+  pub long : goodFile k f ≡ true
+  pub lines : (i : ℕ) → i < linesIn k f → lineFault k (lineAt k f i) ≡ 0
+
+-- ---- what the checks say, case by case: P is so of it, if P is so of each refusal and of a good file
+
+module _ (P : Checked → Type 0) where
+  -- of what is made of a test
+  on-test : (b : Bool) (x y : Checked) → (b ≡ true → P x) → (b ≡ false → P y) → P (cond b x y)
+  on-test true x y p q = p refl
+  on-test false x y p q = q refl
+
+  -- of a place
+  on-found : (o : Found) (x : Checked) (k : ℕ → Checked) → (o ≡ Nothing → P x) → ((i : ℕ) → P (k i)) → P (onFound o x k)
+  on-found (At i) x k p q = q i
+  on-found Nothing x k p q = p refl
+
+  -- of a header
+  on-header : (o : Opened) (x : Checked) (k : Header → Checked) → P x → ((h : Header) → P (k h)) → P (onHeader o x k)
+  on-header (aHeader h) x k p q = q h
+  on-header noHeader x k p q = p
+
+  -- of a trailer
+  on-trailer : (o : Closed) (x : Checked) (k : Count → Checked) → P x → ((c : Count) → P (k c)) → P (onTrailer o x k)
+  on-trailer (aTrailer c) x k p q = q c
+  on-trailer noTrailer x k p q = p
+
+-- no line is bad where none is found
+lines-good : (k : Kind) (f : List ℕ) → find (badLine k f) (linesIn k f) ≡ Nothing
+    → (i : ℕ) → i < linesIn k f → lineFault k (lineAt k f i) ≡ 0
+unfolding badLine
+lines-good k f e i h =
+    eqb-true (lineFault k (lineAt k f i)) 0
+    (not-false (eqb (lineFault k (lineAt k f i)) 0) (find-none (badLine k f) (linesIn k f) e i h))
+
+-- of what the checks of a file say
+pub checked-by : (P : Checked → Type 0) (k : Kind) (s : Stores) (f : List ℕ) (room : ℕ) (last : Cycle)
+    → (registerSound (s .register) ≡ false → P (refuse 1)) → (guideSound (s .guide) ≡ false → P (refuse 2))
+    → P (refuse 3) → P (refuse 4) → P (refuse 5) → P (refuse 6) → P (refuse 7) → P (refuse 8)
+    → ((place position : ℕ) → P (Refused (record { number = 9; place = place; position = position })))
+    → ((h : Header) → GoodFile k s f → P (Good h)) → P (checked k s f room last)
+unfolding checked frameChecked trailerChecked linesChecked
+checked-by P k s f room last p1 p2 p3 p4 p5 p6 p7 p8 p9 p0 =
+    on-test P (registerSound (s .register)) _ _ (λ a.
+    on-test P (guideSound (s .guide)) _ _ (λ b.
+    on-test P (goodFile k f) _ _ (λ c.
+    on-test P (leb (linesIn k f) room) _ _ (λ d.
+    on-header P (headerOf header (headerLine f)) _ _ p5 (λ h.
+    on-test P (isNextOf last (h .cycle)) _ _ (λ e.
+    on-trailer P (trailerOf trailer (headerLine f) (trailerLine f)) _ _ p7 (λ n.
+    on-test P (isCount n (linesIn k f)) _ _ (λ g.
+    on-found P (find (badLine k f) (linesIn k f)) _ _
+    (λ o. p0 h (record { register = a; guide = b; long = c; lines = lines-good k f o }))
+    (λ i. p9 (i + 1) (lineFault k (lineAt k f i))))
+    (λ e. p8)))
+    (λ e. p6)))
+    (λ e. p4))
+    (λ e. p3))
+    p2)
+    p1
+
+-- ---- a file that passes
+
+-- A is so where the checks say good
+abbrev IfGood : Type 0 → Checked → Type 0
+IfGood A (Good h) = A
+IfGood A (Refused r) = Unit {0}
+
+-- what is known of a file that the checks say is good
+pub good-file : (k : Kind) (s : Stores) (f : List ℕ) (room : ℕ) (last : Cycle) (h : Header) → checked k s f room last ≡ Good h
+    → GoodFile k s f
+good-file k s f room last h e =
+    subst (IfGood (GoodFile k s f)) e
+    (checked-by (IfGood (GoodFile k s f)) k s f room last (λ x. tt) (λ x. tt) tt tt tt tt tt tt (λ i j. tt) (λ x g. g))
+
+-- a file of good length has header, whole lines and trailer
+pub file-long : (k : Kind) (f : List ℕ) → goodFile k f ≡ true → length f ≡ 400 + linesIn k f * lineSize k
+unfolding goodFile linesIn
+file-long Data f e =
+    let a = leb 400 (length f) in
+    let b = eqb ((length f - 400) % 512) 0 in
+    let c = leb ((length f - 400) / 512) 9999 in
+    let p = leb-true 400 (length f) (and-left a (b && c) e) in
+    let q = eqb-true ((length f - 400) % 512) 0 (and-left b c (and-right a (b && c) e)) in
+    omega arith
+file-long Guide f e =
+    let a = leb 400 (length f) in
+    let b = eqb ((length f - 400) % 200) 0 in
+    let c = leb ((length f - 400) / 200) 9999 in
+    let p = leb-true 400 (length f) (and-left a (b && c) e) in
+    let q = eqb-true ((length f - 400) % 200) 0 (and-left b c (and-right a (b && c) e)) in
+    omega arith
+
+-- so each line is whole
+pub line-long : (k : Kind) (f : List ℕ) (i : ℕ) → goodFile k f ≡ true → i < linesIn k f → length (lineAt k f i) ≡ lineSize k
+unfolding lineAt
+line-long Data f i e h = part-length (200 + i * 512) 512 f (omega (arith, file-long Data f e))
+line-long Guide f i e h = part-length (200 + i * 200) 200 f (omega (arith, file-long Guide f e))

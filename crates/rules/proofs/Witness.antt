@@ -1,0 +1,76 @@
+-- The demands are not empty: a guide row and four records are taken into one slot of each kind. A number passes from one company to
+-- another by U and M, and a change of the old company is turned away. All is computed. Assumes nothing.
+-- 010100
+use mathlib.Core.Path.{_≡_, refl}
+use mathlib.Core.List.{List, [], _∷_, _++_}
+use Prim.Native.Nat.{ℕ}
+use lib.ListN.{length, take, replicate}
+use Rattle.text.specs.Text.{spaces, spelled, runsOf, putAt}
+use Rattle.calendar.specs.Calendar.{dayOf}
+use Rattle.layout.specs.Counters.{cycleOf, wholeCount, countOf}
+use Rattle.layout.specs.Fields.{functionOf, numberOf, houseOf, streetOf, placeOf, esnOf, hasEsn, dateOf, companyOf, rowStreetOf, rowPlaceOf, lowOf, highOf, parityOf, allows, rowEsnOf, rowFunctionOf, withEsn}
+use Rattle.layout.specs.Frames.{dateOf as frameDateOf, nameOf, headerOf, sameFrame, trailerOf}
+use Rattle.layout.specs.Rules.{isDirection, isDate, isCycle, isTally, keepsFrame, keepsOther, keeps, houseFault, endFault, highFault, parityFault, isWhole, faultBy, faultIn, recordFault, rowFault}
+use Rattle.rules.specs.declared.Kind.the-variants.{Data, Guide}
+use Rattle.rules.specs.Walks.{find, first}
+use Rattle.rules.specs.Slots.{slotAt, place, withPlace, goodLength, stateOf, slotDay, recordOf, slotOf, isZero, fitsSlot, dayFits, usedSound, slotSound, unsoundSlot, registerSound, isPresent, isVacant, rowOf, rowSlotOf, freeRowSlot, presentSound, rowSlotSound, unsoundRowSlot, guideSound}
+use Rattle.rules.specs.Covers.{hits, covers, sameStreet, meetFrom, meets, clash, sameRow}
+use Rattle.rules.specs.Records.{filedOf, hasNumber, findNumber, isOver, findRow, freeAt, isReusable, reusableAt, findFree, findReusable, findSpare, answerOf, shown, registerAfter, step, applied}
+use Rattle.rules.specs.Rows.{rowCodeOf, clashAt, findClash, vacantAt, findVacant, sameAt, findSame, entryUnder, findEntry, rowApplied}
+use Rattle.rules.specs.Takes.{linesIn, goodFile, headerLine, trailerLine, lineAt, badLine, linesChecked, trailerChecked, frameChecked, checked, lineApplied, after, answerAt, answersTo, zerosIn, othersIn, refusedFile, appliedFile, taken}
+use Rattle.rules.specs.History.{historyTo, historyAfter}
+use Rattle.rules.specs.Demands.{File, start, taking, run}
+
+abbrev day : List ℕ
+day = 48 ∷ 49 ∷ 48 ∷ 49 ∷ 48 ∷ 48 ∷ []
+
+-- a header of cycle 1
+abbrev opening : List ℕ
+opening = 85 ∷ 72 ∷ 76 ∷ 32 ∷ 32 ∷ (day ++ (78 ∷ (spaces 49 ++ (49 ∷ (spaces 137 ++ (42 ∷ []))))))
+
+-- a trailer; n is the digit of its record count
+abbrev closing : ℕ → List ℕ
+closing n = 85 ∷ 84 ∷ 76 ∷ 32 ∷ 32 ∷ (day ++ (78 ∷ (spaces 57 ++ (n ∷ (spaces 129 ++ (42 ∷ []))))))
+
+-- a row B 1-9 of street A in C, TX, with ESN 83
+abbrev rowLine : List ℕ
+rowLine =
+    spaces 2 ++ (65 ∷ (spaces 65 ++ (49 ∷ (spaces 9 ++ (57 ∷ (spaces 9 ++ (67 ∷ (spaces 31 ++ (84 ∷ 88 ∷ 66 ∷ 56 ∷ 51 ∷
+    (spaces 73 ++ (73 ∷ 42 ∷ [])))))))))))
+
+-- a record of number 1111111111 at 1 A, C, TX, with a blank ESN, of the company whose letter is x
+abbrev line : ℕ → ℕ → List ℕ
+line c x =
+    c ∷ (replicate 10 49 ++ (49 ∷ (spaces 15 ++ (65 ∷ (spaces 65 ++ (67 ∷ (spaces 31 ++ (84 ∷ 88 ∷ (spaces 92 ++ (49 ∷ 48 ∷
+    (spaces 29 ++ (day ++ (spaces 4 ++ (x ∷ (spaces 250 ++ (42 ∷ []))))))))))))))))
+
+-- the row, in a file
+abbrev guideFile : List ℕ
+guideFile = opening ++ (rowLine ++ closing 49)
+
+-- I and U of A, M of B, then C of A
+abbrev dataFile : List ℕ
+dataFile = opening ++ (line 73 65 ++ (line 85 65 ++ (line 77 66 ++ (line 67 65 ++ closing 52))))
+
+-- both files
+abbrev files : List File
+files =
+    record { kind = Guide; bytes = guideFile; answers = 1 ∷ []; last = 0 }
+    ∷ record { kind = Data; bytes = dataFile; answers = 1 ∷ 1 ∷ 1 ∷ 1 ∷ []; last = 0 }
+    ∷ []
+
+-- the answers to the data file after the guide file; and after both files, how many lines the history has, the state of the slot,
+-- and the ESN and the first letter of the Company ID that it shows
+pub seen : List ℕ
+unfolding spelled runsOf putAt dayOf cycleOf wholeCount countOf functionOf numberOf houseOf streetOf placeOf esnOf hasEsn dateOf companyOf rowStreetOf rowPlaceOf lowOf highOf parityOf allows rowEsnOf rowFunctionOf withEsn frameDateOf nameOf headerOf sameFrame trailerOf isDirection isDate isCycle isTally keepsFrame keepsOther keeps houseFault endFault highFault parityFault isWhole faultBy faultIn recordFault rowFault find first place withPlace goodLength stateOf slotDay recordOf slotOf isZero fitsSlot dayFits usedSound slotSound unsoundSlot registerSound isPresent isVacant rowOf rowSlotOf freeRowSlot presentSound rowSlotSound unsoundRowSlot guideSound hits covers sameStreet meetFrom meets clash sameRow filedOf hasNumber findNumber isOver findRow freeAt isReusable reusableAt findFree findReusable findSpare answerOf shown registerAfter step applied rowCodeOf clashAt findClash vacantAt findVacant sameAt findSame entryUnder findEntry rowApplied linesIn goodFile headerLine trailerLine lineAt badLine linesChecked trailerChecked frameChecked checked lineApplied after answerAt answersTo zerosIn othersIn refusedFile appliedFile taken historyTo historyAfter start taking run
+seen =
+    let o = run (record { kind = Guide; bytes = guideFile; answers = 1 ∷ []; last = 0 } ∷ []) (start 1 1) in
+    let e = run files (start 1 1) in
+    let s = slotAt (e .stores .register) 0 in
+    taken Data (o .stores) dataFile (1 ∷ 1 ∷ 1 ∷ 1 ∷ []) 0 .answers
+    ++ (length (e .history) ∷ stateOf s ∷ (esnOf (recordOf s) ++ take 1 (companyOf (recordOf s))))
+
+-- I, U and M are taken, the late C is answered 16; the row and three records are accepted, the number is held by B under ESN 83
+pub witness : seen ≡ 0 ∷ 0 ∷ 0 ∷ 16 ∷ 4 ∷ 1 ∷ 56 ∷ 51 ∷ 32 ∷ 32 ∷ 32 ∷ 66 ∷ []
+unfolding seen
+witness = refl

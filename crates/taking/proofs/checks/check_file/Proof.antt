@@ -1,0 +1,74 @@
+use mathlib.Core.Path.{_∙_, sym}
+use denote.Ref.{now}
+use borrow.Author.Needs.{needs}
+use borrow.Author.Tests.{le-leb, lt-leb}
+use Rattle.taking.proofs.LoopLaws.{good-lines}
+use Rattle.rules.specs.Takes.{checked}
+use Rattle.taking.proofs.checks.check_file.Tie as tie
+use Rattle.taking.proofs.checks.check_file.Statement.{statement}
+
+is-register-sound-requires : tie.Need-is-register-sound-requires
+is-register-sound-requires c κs = search needs
+
+is-guide-sound-requires : tie.Need-is-guide-sound-requires
+is-guide-sound-requires c κs = search needs
+
+is-good-file-requires : tie.Need-is-good-file-requires
+is-good-file-requires c κs = search needs
+
+lines-in-requires : tie.Need-lines-in-requires
+lines-in-requires c κs = search needs
+
+check-frame-requires : tie.Need-check-frame-requires
+check-frame-requires c κs = good-lines (c .before .before .before .before .before .before .before .before .before .before .before .args .kind) (c .before .before .before .before .before .before .before .before .before .before .before .args .file .now) (sym (c .before .before .before .is-good-file .ensures) ∙ c .before .before .if3 .taken)
+
+returns : tie.Need-returns
+unfolding checked
+returns c = rw (← c .before .before .before .before .before .before .before .before .is-register-sound .ensures, c .before .before .before .before .before .before .before .if1 .taken, ← c .before .before .before .before .before .before .is-guide-sound .ensures, c .before .before .before .before .before .if2 .taken, ← c .before .before .before .before .is-good-file .ensures, c .before .before .before .if3 .taken, ← c .before .before .lines-in .ensures, le-leb _ _ (c .before .if4 .taken)) (c .check-frame .ensures)
+
+refused-requires : tie.Need-refused-requires
+refused-requires c κs = search needs
+
+returns-2 : tie.Need-returns-2
+unfolding checked
+returns-2 c = rw (← c .before .before .before .before .before .before .before .before .is-register-sound .ensures, c .before .before .before .before .before .before .before .if1 .taken, ← c .before .before .before .before .before .before .is-guide-sound .ensures, c .before .before .before .before .before .if2 .taken, ← c .before .before .before .before .is-good-file .ensures, c .before .before .before .if3 .taken, ← c .before .before .lines-in .ensures, lt-leb _ _ (c .before .if4 .left)) (c .refused .ensures)
+
+refused-requires-2 : tie.Need-refused-requires-2
+refused-requires-2 c κs = search needs
+
+returns-3 : tie.Need-returns-3
+unfolding checked
+returns-3 c = rw (← c .before .before .before .before .before .before .is-register-sound .ensures, c .before .before .before .before .before .if1 .taken, ← c .before .before .before .before .is-guide-sound .ensures, c .before .before .before .if2 .taken, ← c .before .before .is-good-file .ensures, c .before .if3 .left) (c .refused2 .ensures)
+
+refused-requires-3 : tie.Need-refused-requires-3
+refused-requires-3 c κs = search needs
+
+returns-4 : tie.Need-returns-4
+unfolding checked
+returns-4 c = rw (← c .before .before .before .before .is-register-sound .ensures, c .before .before .before .if1 .taken, ← c .before .before .is-guide-sound .ensures, c .before .if2 .left) (c .refused3 .ensures)
+
+refused-requires-4 : tie.Need-refused-requires-4
+refused-requires-4 c κs = search needs
+
+returns-5 : tie.Need-returns-5
+unfolding checked
+returns-5 c = rw (← c .before .before .is-register-sound .ensures, c .before .if1 .left) (c .refused4 .ensures)
+
+pub check-file-spec : {M : Type 1} → statement M
+check-file-spec =
+    tie.close
+    (tie.spec
+    is-register-sound-requires
+    is-guide-sound-requires
+    is-good-file-requires
+    lines-in-requires
+    check-frame-requires
+    returns
+    refused-requires
+    returns-2
+    refused-requires-2
+    returns-3
+    refused-requires-3
+    returns-4
+    refused-requires-4
+    returns-5)

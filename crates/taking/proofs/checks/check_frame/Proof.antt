@@ -1,0 +1,60 @@
+use borrow.Author.Needs.{needs}
+use Rattle.rules.specs.Takes.{frameChecked}
+use Rattle.taking.proofs.checks.check_frame.Tie as tie
+use Rattle.taking.proofs.checks.check_frame.Statement.{statement}
+
+slice-aggregate-fields : tie.Need-slice-aggregate-fields
+slice-aggregate-fields c = search needs
+
+header-line-requires : tie.Need-header-line-requires
+header-line-requires c κs = search needs
+
+header-in-requires : tie.Need-header-in-requires
+header-in-requires c κs = search needs
+
+enum-known-h : tie.Need-enum-known-h
+enum-known-h c = search needs
+
+enum-told : tie.Need-enum-told
+enum-told c = search needs
+
+refused-requires : tie.Need-refused-requires
+refused-requires c κs = search needs
+
+returns : tie.Need-returns
+unfolding frameChecked
+returns c = rw (← c .before .before .before .before .header-line .ensures, ← c .before .before .before .header-in .ensures, c .before .enum-told .given .1) (c .refused .ensures)
+
+is-next-requires : tie.Need-is-next-requires
+is-next-requires c κs = search needs
+
+check-trailer-requires : tie.Need-check-trailer-requires
+check-trailer-requires c κs = c .before .before .before .before .before .before .before .before .before .before .pre
+
+returns-2 : tie.Need-returns-2
+unfolding frameChecked
+returns-2 c = rw (← c .before .before .before .before .before .before .before .before .header-line .ensures, ← c .before .before .before .before .before .before .before .header-in .ensures, c .before .before .before .before .before .h .given .1, ← c .before .before .is-next .ensures, c .before .if1 .taken) (c .check-trailer .ensures)
+
+refused-requires-2 : tie.Need-refused-requires-2
+refused-requires-2 c κs = search needs
+
+returns-3 : tie.Need-returns-3
+unfolding frameChecked
+returns-3 c = rw (← c .before .before .before .before .before .before .before .before .header-line .ensures, ← c .before .before .before .before .before .before .before .header-in .ensures, c .before .before .before .before .before .h .given .1, ← c .before .before .is-next .ensures, c .before .if1 .left) (c .refused2 .ensures)
+
+pub check-frame-spec : {M : Type 1} → statement M
+check-frame-spec =
+    tie.close
+    (tie.spec
+    slice-aggregate-fields
+    header-line-requires
+    header-in-requires
+    enum-known-h
+    enum-told
+    refused-requires
+    returns
+    is-next-requires
+    check-trailer-requires
+    returns-2
+    refused-requires-2
+    returns-3)

@@ -1,0 +1,68 @@
+use borrow.Author.Needs.{needs}
+use Rattle.rules.specs.Takes.{trailerChecked}
+use Rattle.taking.proofs.checks.check_trailer.Tie as tie
+use Rattle.taking.proofs.checks.check_trailer.Statement.{statement}
+
+slice-aggregate-fields : tie.Need-slice-aggregate-fields
+slice-aggregate-fields c = search needs
+
+header-line-requires : tie.Need-header-line-requires
+header-line-requires c κs = search needs
+
+trailer-line-requires : tie.Need-trailer-line-requires
+trailer-line-requires c κs = search needs
+
+trailer-in-requires : tie.Need-trailer-in-requires
+trailer-in-requires c κs = search needs
+
+enum-known-count : tie.Need-enum-known-count
+enum-known-count c = search needs
+
+enum-told : tie.Need-enum-told
+enum-told c = search needs
+
+refused-requires : tie.Need-refused-requires
+refused-requires c κs = search needs
+
+returns : tie.Need-returns
+unfolding trailerChecked
+returns c = rw (← c .before .before .before .before .before .header-line .ensures, ← c .before .before .before .before .trailer-line .ensures, ← c .before .before .before .trailer-in .ensures, c .before .enum-told .given .1) (c .refused .ensures)
+
+lines-in-requires : tie.Need-lines-in-requires
+lines-in-requires c κs = search needs
+
+is-requires : tie.Need-is-requires
+is-requires c κs = search needs
+
+check-all-requires : tie.Need-check-all-requires
+check-all-requires c κs = (c .before .before .lines-in .ensures, rw (← c .before .before .lines-in .ensures) at (c .before .before .before .before .before .before .before .before .before .before .before .pre))
+
+returns-2 : tie.Need-returns-2
+unfolding trailerChecked
+returns-2 c = rw (← c .before .before .before .before .before .before .before .before .before .header-line .ensures, ← c .before .before .before .before .before .before .before .before .trailer-line .ensures, ← c .before .before .before .before .before .before .before .trailer-in .ensures, c .before .before .before .before .before .count .given .1, ← c .before .before .before .lines-in .ensures, ← c .before .before .is .ensures, c .before .if1 .taken) (c .check-all .ensures)
+
+refused-requires-2 : tie.Need-refused-requires-2
+refused-requires-2 c κs = search needs
+
+returns-3 : tie.Need-returns-3
+unfolding trailerChecked
+returns-3 c = rw (← c .before .before .before .before .before .before .before .before .before .header-line .ensures, ← c .before .before .before .before .before .before .before .before .trailer-line .ensures, ← c .before .before .before .before .before .before .before .trailer-in .ensures, c .before .before .before .before .before .count .given .1, ← c .before .before .before .lines-in .ensures, ← c .before .before .is .ensures, c .before .if1 .left) (c .refused2 .ensures)
+
+pub check-trailer-spec : {M : Type 1} → statement M
+check-trailer-spec =
+    tie.close
+    (tie.spec
+    slice-aggregate-fields
+    header-line-requires
+    trailer-line-requires
+    trailer-in-requires
+    enum-known-count
+    enum-told
+    refused-requires
+    returns
+    lines-in-requires
+    is-requires
+    check-all-requires
+    returns-2
+    refused-requires-2
+    returns-3)

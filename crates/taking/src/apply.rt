@@ -1,0 +1,76 @@
+// The lines of a checked file, applied one after the other to what the earlier ones left.
+ghost use mathlib.Core.Path.{_≡_};
+ghost use Prim.Native.Nat.{_≤_};
+ghost use lib.ListN.{length, drop};
+ghost use mathlib.Core.List.{_++_};
+ghost use Rattle.rules.specs.declared.Kind.the-variants.{Data, Guide};
+ghost use Rattle.rules.specs.Takes.{after, answersTo, zerosIn};
+use crate::checks;
+use layout::frame::Header;
+use rules::Kind;
+use steps::data;
+use steps::row;
+
+// Answer byte i is written for record i; how many answers are 0.
+pub fn apply_records(
+    register: &mut [u8],
+    guide: &[u8],
+    lines: &[u8],
+    answers: &mut [u8],
+    h: Header,
+    n: usize,
+) -> u32
+    requires { ⌜ (n ≤ 9999) × (n ≤ length (now answers)) ⌝ }
+    ensures { λ r. ⌜ (r ≤ n) × ((r ≡ zerosIn (answersTo Data h (now (lines .entry)) (record { register = now (register .entry); guide = now (guide .entry) }) n))
+        × ((now (register .exit) ≡ after Data h (now (lines .entry)) (record { register = now (register .entry); guide = now (guide .entry) }) n .register)
+        × (now (answers .exit) ≡ answersTo Data h (now (lines .entry)) (record { register = now (register .entry); guide = now (guide .entry) }) n ++ drop n (now (answers .entry))))) ⌝ }
+{
+    let mut done: u32 = 0;
+    let mut i: usize = 0;
+    while i < n {
+        let answer = data::apply_record(
+            &mut register[..],
+            guide,
+            h,
+            checks::line_at(Kind::Data, lines, i),
+        );
+        answers[i] = answer;
+        if answer == 0 {
+            done += 1;
+        }
+        i += 1;
+    }
+    done
+}
+
+// The same for the rows of a guide file.
+pub fn apply_rows(
+    register: &[u8],
+    guide: &mut [u8],
+    lines: &[u8],
+    answers: &mut [u8],
+    h: Header,
+    n: usize,
+) -> u32
+    requires { ⌜ (n ≤ 9999) × (n ≤ length (now answers)) ⌝ }
+    ensures { λ r. ⌜ (r ≤ n) × ((r ≡ zerosIn (answersTo Guide h (now (lines .entry)) (record { register = now (register .entry); guide = now (guide .entry) }) n))
+        × ((now (guide .exit) ≡ after Guide h (now (lines .entry)) (record { register = now (register .entry); guide = now (guide .entry) }) n .guide)
+        × (now (answers .exit) ≡ answersTo Guide h (now (lines .entry)) (record { register = now (register .entry); guide = now (guide .entry) }) n ++ drop n (now (answers .entry))))) ⌝ }
+{
+    let mut done: u32 = 0;
+    let mut i: usize = 0;
+    while i < n {
+        let answer = row::apply_row(
+            register,
+            &mut guide[..],
+            h,
+            checks::line_at(Kind::Guide, lines, i),
+        );
+        answers[i] = answer;
+        if answer == 0 {
+            done += 1;
+        }
+        i += 1;
+    }
+    done
+}

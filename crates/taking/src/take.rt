@@ -1,0 +1,108 @@
+// The two takes. A file is checked to its end before anything is applied.
+ghost use mathlib.Core.Path.{_≡_};
+ghost use Prim.Native.Nat.{_≤_, _-_};
+ghost use Rattle.rules.specs.declared.Kind.the-variants.{Data, Guide};
+ghost use Rattle.rules.specs.Takes.{taken};
+use crate::apply;
+use crate::checks;
+use layout::counter::Cycle;
+use layout::frame::Header;
+use rules::Checked;
+use rules::Kind;
+use rules::Refusal;
+use rules::Taken;
+
+// What a refused file returns.
+fn refused(r: Refusal, last: u32) -> Taken
+    ensures { λ t. ⌜ t ≡ record { refusal = r .number; place = r .place; position = r .position; records = 0; done = 0; undone = 0; last = last } ⌝ }
+{
+    Taken {
+        refusal: r.number,
+        place: r.place,
+        position: r.position,
+        records: 0,
+        done: 0,
+        undone: 0,
+        last,
+    }
+}
+
+// What an applied file returns.
+fn applied(h: Header, n: usize, done: u32) -> Taken
+    requires { ⌜ (n ≤ 9999) × (done ≤ n) ⌝ }
+    ensures { λ t. ⌜ t ≡ record { refusal = 0; place = 0; position = 0; records = n; done = done; undone = n - done; last = h .cycle .0 } ⌝ }
+{
+    let cycle = h.cycle;
+    let records = n as u32;
+    Taken {
+        refusal: 0,
+        place: 0,
+        position: 0,
+        records,
+        done,
+        undone: records - done,
+        last: cycle.number(),
+    }
+}
+
+// Takes a data file: the guide is read, the register and the answers are written.
+pub fn take_data(
+    register: &mut [u8],
+    guide: &[u8],
+    file: &[u8],
+    answers: &mut [u8],
+    last: u32,
+) -> Taken
+    ensures { λ r. ⌜ (r ≡ taken Data (record { register = now (register .entry); guide = now (guide .entry) }) (now (file .entry)) (now (answers .entry)) last .result)
+        × ((now (register .exit) ≡ taken Data (record { register = now (register .entry); guide = now (guide .entry) }) (now (file .entry)) (now (answers .entry)) last .stores .register)
+        × (now (answers .exit) ≡ taken Data (record { register = now (register .entry); guide = now (guide .entry) }) (now (file .entry)) (now (answers .entry)) last .answers)) ⌝ }
+{
+    let room = answers.len();
+    let checked = checks::check_file(
+        Kind::Data,
+        &register[..],
+        guide,
+        file,
+        room,
+        Cycle::given(last),
+    );
+    match checked {
+        Checked::Refused(r) => refused(r, last),
+        Checked::Good(h) => {
+            let n = checks::lines_in(Kind::Data, file);
+            let done = apply::apply_records(&mut register[..], guide, file, &mut answers[..], h, n);
+            applied(h, n, done)
+        }
+    }
+}
+
+// Takes a guide file: the register is read, the guide and the answers are written.
+pub fn take_guide(
+    register: &[u8],
+    guide: &mut [u8],
+    file: &[u8],
+    answers: &mut [u8],
+    last: u32,
+) -> Taken
+    ensures { λ r. ⌜ (r ≡ taken Guide (record { register = now (register .entry); guide = now (guide .entry) }) (now (file .entry)) (now (answers .entry)) last .result)
+        × ((now (guide .exit) ≡ taken Guide (record { register = now (register .entry); guide = now (guide .entry) }) (now (file .entry)) (now (answers .entry)) last .stores .guide)
+        × (now (answers .exit) ≡ taken Guide (record { register = now (register .entry); guide = now (guide .entry) }) (now (file .entry)) (now (answers .entry)) last .answers)) ⌝ }
+{
+    let room = answers.len();
+    let checked = checks::check_file(
+        Kind::Guide,
+        register,
+        &guide[..],
+        file,
+        room,
+        Cycle::given(last),
+    );
+    match checked {
+        Checked::Refused(r) => refused(r, last),
+        Checked::Good(h) => {
+            let n = checks::lines_in(Kind::Guide, file);
+            let done = apply::apply_rows(register, &mut guide[..], file, &mut answers[..], h, n);
+            applied(h, n, done)
+        }
+    }
+}
