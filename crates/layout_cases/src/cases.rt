@@ -1,9 +1,9 @@
 // The forms of a case: a good line with something changed, and what came of it.
-use crate::lines;
-use crate::lines::Kind;
 use crate::lists;
 use crate::lists::Task;
-use crate::out;
+use case_lines::lines;
+use case_lines::lines::Kind;
+use case_lines::out;
 use layout::check;
 use layout::frame;
 use layout::frame::Closed;

@@ -1,9 +1,9 @@
 // Cases of header and trailer: what a header says, whether a trailer is read, and its count.
 use crate::cases;
-use crate::lines;
-use crate::lines::Kind;
 use crate::lists;
-use crate::out;
+use case_lines::lines;
+use case_lines::lines::Kind;
+use case_lines::out;
 use layout::frame;
 use layout::table;
 use layout::table::TRAILER;

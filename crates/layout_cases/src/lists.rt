@@ -1,12 +1,9 @@
 // Cases as text: a list has a bar between two items, a table of fields a semicolon between two entries.
 use crate::cases;
-use crate::dates;
-use crate::lines;
-use crate::lines::Kind;
-use crate::readers;
 use crate::rows;
-
-pub const BAR: u8 = 124;
+use case_lines::lines;
+use case_lines::lines::BAR;
+use case_lines::lines::Kind;
 
 const SEMICOLON: u8 = 59;
 
@@ -16,22 +13,12 @@ pub enum Task {
     Value(Kind),
     // Low and High of a row, whose parity is the name.
     Span,
-    Date,
-    House,
-    // Low or High, read by itself.
-    End,
-    // House numbers that a parity allows or not.
-    Allowed,
 }
 
 fn one(task: Task, name: &[u8], k: usize, item: &[u8]) {
     match task {
         Task::Value(kind) => cases::case(kind, name, k, item),
         Task::Span => rows::span(name, item),
-        Task::Date => dates::date(item),
-        Task::House => readers::house(item),
-        Task::End => readers::end(item),
-        Task::Allowed => readers::allowed(name, item),
     }
 }
 

@@ -1,8 +1,8 @@
 // Cases of the data record: the position of its first fault, or 0. What the good record holds is not run again.
 use crate::cases;
-use crate::lines::Kind;
 use crate::lists;
-use crate::places;
+use case_lines::lines::Kind;
+use case_lines::places;
 use layout::table;
 
 // 003's type letters are no rule, and lower case is good in text.

@@ -1,11 +1,11 @@
 // Cases of the guide row: the position of its first fault, or 0. What the good row holds is not run again.
 use crate::cases;
-use crate::lines;
-use crate::lines::Kind;
 use crate::lists;
 use crate::lists::Task;
-use crate::out;
-use crate::places;
+use case_lines::lines;
+use case_lines::lines::Kind;
+use case_lines::out;
+use case_lines::places;
 use layout::table;
 
 const DASH: u8 = 45;

@@ -1,9 +1,9 @@
 // Cases of what is read from a line, and of what is written into one.
-use crate::lines;
-use crate::lines::Kind;
 use crate::lists;
 use crate::lists::Task;
-use crate::out;
+use case_lines::lines;
+use case_lines::lines::Kind;
+use case_lines::out;
 use layout::field;
 use layout::table;
 use text::Spelled;
@@ -64,19 +64,13 @@ fn numbers() {
     lists::each(
         Task::House,
         b"",
-        0,
         b"1234      |0001234|12345678||123456789|1 1",
     );
-    lists::each(
-        Task::End,
-        b"",
-        0,
-        b"1201      |00099|12345678||123456789|1 1",
-    );
-    lists::each(Task::Allowed, b"O", 0, b"0|1|2");
-    lists::each(Task::Allowed, b"E", 0, b"0|1|2");
-    lists::each(Task::Allowed, b"B", 0, b"0|1|2");
-    lists::each(Task::Allowed, b"X", 0, b"1");
+    lists::each(Task::End, b"", b"1201      |00099|12345678||123456789|1 1");
+    lists::each(Task::Allowed, b"O", b"0|1|2");
+    lists::each(Task::Allowed, b"E", b"0|1|2");
+    lists::each(Task::Allowed, b"B", b"0|1|2");
+    lists::each(Task::Allowed, b"X", b"1");
 }
 
 // Byte for byte: `83` and `083` differ.

@@ -1,7 +1,7 @@
 // Cases of dates: the day number, or that there is no such day.
 use crate::lists;
 use crate::lists::Task;
-use crate::out;
+use case_lines::out;
 
 pub fn date(mmddyy: &[u8]) {
     out::word(b"date ");
@@ -10,7 +10,7 @@ pub fn date(mmddyy: &[u8]) {
 }
 
 fn dates(list: &[u8]) {
-    lists::each(Task::Date, b"", 0, list);
+    lists::each(Task::Date, b"", list);
 }
 
 pub fn run() {

@@ -1,5 +1,5 @@
 // Cases of cycles and counts: which cycle follows, and how a number is written.
-use crate::out;
+use case_lines::out;
 use layout::counter::Cycle;
 
 fn after(last: u32) {

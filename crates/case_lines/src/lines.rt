@@ -1,5 +1,4 @@
 // A good line of each kind, and the ways in which a case changes one. Where a field lies is taken from layout's tables.
-use crate::lists::BAR;
 use crate::places;
 use layout::table::HEADER;
 use layout::table::RECORD;
@@ -12,6 +11,9 @@ pub enum Kind {
     Head,
     Tail,
 }
+
+// A list of cases is a text with a bar between two items.
+pub const BAR: u8 = 124;
 
 // No table has more fields than the record's.
 const FIELDS: usize = places::RECORD_STAR + 1;
