@@ -26,6 +26,7 @@ use Rattle.rules.specs.Slots.{slots, slotAt, withSlot, stateOf, slotDay,
 use Rattle.rules.specs.Covers.{covers, clash, sameRow}
 use Rattle.rules.specs.Records.{isInsert, isMigrate, stores, isOwn, stateAfter, hasNumber, findNumber, isOver, findRow, freeAt, isReusable, reusableAt, findFree, findReusable, findSpare, tooEarly, otherEsn, table, answerOf, shown, shownUnder, slotAfter, registerAfter}
 use Rattle.rules.specs.Rows.{clashAt, findClash, vacantAt, findVacant, sameAt, findSame, entryUnder, findEntry, insertTable, deleteTable, rowAnswerOf, guideAfter}
+use Rattle.rules.specs.Demands.{usedAt, liveAt, presentAt}
 use Rattle.rules.proofs.WalkLaws.{clash-bool, and-both, and-rest, not-false, find-some, find-none, AllFail, positive, first-zero}
 
 abbrev pub allowed : Code → ℕ → Bool
@@ -84,17 +85,6 @@ dead-of-free b h = rw (eqb-true b 0 h) refl
 
 pub dead-of-resting : (b : ℕ) → isResting b ≡ true → isLive b ≡ false
 dead-of-resting b h = rw (eqb-true b 3 h) refl
-
--- ---- what stands at a place: a used slot, an entry, a row
-
-abbrev pub usedAt : List ℕ → ℕ → Type 0
-usedAt R i = (i < slots R) × (isUsed (stateOf (slotAt R i)) ≡ true)
-
-abbrev pub liveAt : List ℕ → ℕ → Type 0
-liveAt R i = (i < slots R) × (isLive (stateOf (slotAt R i)) ≡ true)
-
-abbrev pub presentAt : List ℕ → ℕ → Type 0
-presentAt G k = (k < rowSlots G) × (isPresent (rowSlotAt G k) ≡ true)
 
 -- ---- a data record r with code c and date d
 
