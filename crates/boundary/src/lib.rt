@@ -1,7 +1,8 @@
-// The C face of the takes: nothing but calls.
+// The C face of the takes and the load file: nothing but calls.
 ghost use mathlib.Core.Path.{_≡_};
-ghost use Rattle.rules.specs.declared.Kind.the-variants.{Data, Guide};
-ghost use Rattle.rules.specs.Takes.{taken};
+ghost use Rattle.rules.specs.Takes.{TakesData, TakesGuide};
+ghost use Rattle.rules.specs.Loads.{WritesLoad};
+use rules::Loaded;
 use rules::Taken;
 
 #[no_mangle]
@@ -12,9 +13,7 @@ pub extern "C" fn hakkiyolu_take_data(
     answers: &mut [u8],
     last: u32,
 ) -> Taken
-    ensures { λ r. ⌜ (r ≡ taken Data (record { register = now (register .entry); guide = now (guide .entry) }) (now (file .entry)) (now (answers .entry)) last .result)
-        × ((now (register .exit) ≡ taken Data (record { register = now (register .entry); guide = now (guide .entry) }) (now (file .entry)) (now (answers .entry)) last .stores .register)
-        × (now (answers .exit) ≡ taken Data (record { register = now (register .entry); guide = now (guide .entry) }) (now (file .entry)) (now (answers .entry)) last .answers)) ⌝ }
+    ensures { λ r. ⌜ TakesData (now (register .entry)) (now (guide .entry)) (now (file .entry)) (now (answers .entry)) last r (now (register .exit)) (now (answers .exit)) ⌝ }
 {
     taking::take::take_data(&mut register[..], guide, file, &mut answers[..], last)
 }
@@ -27,9 +26,20 @@ pub extern "C" fn hakkiyolu_take_guide(
     answers: &mut [u8],
     last: u32,
 ) -> Taken
-    ensures { λ r. ⌜ (r ≡ taken Guide (record { register = now (register .entry); guide = now (guide .entry) }) (now (file .entry)) (now (answers .entry)) last .result)
-        × ((now (guide .exit) ≡ taken Guide (record { register = now (register .entry); guide = now (guide .entry) }) (now (file .entry)) (now (answers .entry)) last .stores .guide)
-        × (now (answers .exit) ≡ taken Guide (record { register = now (register .entry); guide = now (guide .entry) }) (now (file .entry)) (now (answers .entry)) last .answers)) ⌝ }
+    ensures { λ r. ⌜ TakesGuide (now (register .entry)) (now (guide .entry)) (now (file .entry)) (now (answers .entry)) last r (now (guide .exit)) (now (answers .exit)) ⌝ }
 {
     taking::take::take_guide(register, &mut guide[..], file, &mut answers[..], last)
+}
+
+#[no_mangle]
+pub extern "C" fn hakkiyolu_write_load(
+    register: &[u8],
+    date: &[u8],
+    name: &[u8],
+    cycle: u32,
+    out: &mut [u8],
+) -> Loaded
+    ensures { λ r. ⌜ WritesLoad (now (register .entry)) (now (date .entry)) (now (name .entry)) cycle (now (out .entry)) r (now (out .exit)) ⌝ }
+{
+    loading::write_load(register, date, name, cycle, &mut out[..])
 }

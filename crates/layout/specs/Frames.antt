@@ -1,12 +1,12 @@
 -- 01, "Header" and "Trailer", read to what taking needs. Each table says how long its line is.
 -- Assumes nothing.
 use Prim.Native.Nat.{ℕ}
-use mathlib.Core.List.{List}
+use mathlib.Core.List.{List, [], _∷_}
 use mathlib.Core.Bool.{Bool, true, false, _&&_, cond}
 use lib.Dec.{eqb}
-use Rattle.text.specs.Text.{sameBytes}
+use Rattle.text.specs.Text.{sameBytes, putAt, spaces, leftDigits, rightDigits}
 use Rattle.calendar.specs.Calendar.{dayOf, onDay}
-use Rattle.layout.specs.Tables.{header, trailer, field, frameDate, name, cycle, count}
+use Rattle.layout.specs.Tables.{header, trailer, startOf, sizeOf, field, opener, frameDate, name, cycle, count, frameStar}
 use Rattle.layout.specs.Counters.{cycleOf, onCycle, countOf, onCount}
 use Rattle.layout.specs.Rules.{faultIn}
 use Rattle.layout.specs.declared.counter.Count.{Count}
@@ -51,3 +51,32 @@ trailerOf t h s =
     cond (eqb (faultIn false s t) 0)
     (cond (sameFrame h s) (onCount (countOf (field trailer count s)) noTrailer aTrailer) noTrailer)
     noTrailer
+
+-- ---- writing
+
+-- the letters that a header and a trailer begin with: "`UHL` and two spaces", "`UTL` and two spaces"
+abbrev pub headerLetters : List ℕ
+headerLetters = 85 ∷ 72 ∷ 76 ∷ 32 ∷ 32 ∷ []
+
+abbrev pub trailerLetters : List ℕ
+trailerLetters = 85 ∷ 84 ∷ 76 ∷ 32 ∷ 32 ∷ []
+
+-- m bytes, "free parts are spaces": the letters, date, company name and counter of a header or a trailer, and `*`
+unfoldable pub frameWith : List ℕ → List ℕ → List ℕ → List ℕ → ℕ → List ℕ
+frameWith letters date company counter m =
+    putAt (startOf header opener) letters
+    (putAt (startOf header frameDate) date
+    (putAt (startOf header name) company
+    (putAt (startOf header cycle) counter
+    (putAt (startOf header frameStar) (42 ∷ [])
+    (spaces m)))))
+
+-- a header; "the cycle has no leading zero"
+unfoldable pub headerWith : List ℕ → List ℕ → ℕ → ℕ → List ℕ
+headerWith date company c m =
+    frameWith headerLetters date company (leftDigits c (spaces (sizeOf header cycle))) m
+
+-- a trailer of n records
+unfoldable pub trailerWith : List ℕ → List ℕ → ℕ → ℕ → List ℕ
+trailerWith date company n m =
+    frameWith trailerLetters date company (rightDigits n (spaces (sizeOf trailer count))) m

@@ -279,6 +279,9 @@ rowFunction = 11
 
 -- and those of header and trailer
 
+abbrev pub opener : ℕ
+opener = 0
+
 abbrev pub frameDate : ℕ
 frameDate = 1
 
@@ -290,6 +293,9 @@ cycle = 3
 
 abbrev pub count : ℕ
 count = 3
+
+abbrev pub frameStar : ℕ
+frameStar = 5
 
 -- the byte, from 0, at which field k starts, and how many bytes it has
 abbrev pub startOf : List ℕ → ℕ → ℕ

@@ -1,6 +1,7 @@
 // Header and trailer of a file, read to what taking needs. Their lengths are those of the tables handed in.
 ghost use mathlib.Core.Path.{_≡_};
-ghost use Rattle.layout.specs.Frames.{dateOf, nameOf, headerOf, sameFrame, trailerOf};
+ghost use lib.ListN.{length};
+ghost use Rattle.layout.specs.Frames.{dateOf, nameOf, headerOf, sameFrame, trailerOf, frameWith, headerWith, trailerWith};
 use crate::check;
 use crate::counter;
 use crate::counter::Count;
@@ -12,6 +13,8 @@ use crate::table::HEADER;
 use crate::table::TRAILER;
 use calendar::Date;
 use calendar::Day;
+
+const OPENER_AT: usize = HEADER[3 * table::OPENER] - 1;
 
 const DATE_AT: usize = HEADER[3 * table::FRAME_DATE] - 1;
 
@@ -28,6 +31,8 @@ const CYCLE_SIZE: usize = HEADER[3 * table::CYCLE + 1];
 const COUNT_AT: usize = TRAILER[3 * table::COUNT] - 1;
 
 const COUNT_SIZE: usize = TRAILER[3 * table::COUNT + 1];
+
+const STAR_AT: usize = HEADER[3 * table::FRAME_STAR] - 1;
 
 // What a step knows of the file that its record stands in.
 pub struct Header {
@@ -96,4 +101,34 @@ pub fn trailer_in(table: &[usize], header: &[u8], s: &[u8]) -> Closed
         return Closed::Trailer(count);
     }
     Closed::Wrong
+}
+
+// The letters, date, company name and counter of a header or a trailer, and `*`; the free part is spaces.
+fn put_frame(s: &mut [u8], letters: &[u8], date: &[u8], company: &[u8], counter: &[u8])
+    ensures { λ _. ⌜ now (s .exit) ≡ frameWith (now (letters .entry)) (now (date .entry)) (now (company .entry)) (now (counter .entry)) (length (now (s .entry))) ⌝ }
+{
+    text::fill(&mut s[..], 32);
+    text::put(&mut s[..], STAR_AT, b"*");
+    text::put(&mut s[..], CYCLE_AT, counter);
+    text::put(&mut s[..], NAME_AT, company);
+    text::put(&mut s[..], DATE_AT, date);
+    text::put(&mut s[..], OPENER_AT, letters);
+}
+
+// A header; its cycle has no leading zero.
+pub fn put_header(s: &mut [u8], date: &[u8], company: &[u8], cycle: Cycle)
+    ensures { λ _. ⌜ now (s .exit) ≡ headerWith (now (date .entry)) (now (company .entry)) (cycle .0) (length (now (s .entry))) ⌝ }
+{
+    let mut counter = [32; CYCLE_SIZE];
+    cycle.put(&mut counter);
+    put_frame(&mut s[..], b"UHL  ", date, company, &counter);
+}
+
+// A trailer of n records.
+pub fn put_trailer(s: &mut [u8], date: &[u8], company: &[u8], n: u32)
+    ensures { λ _. ⌜ now (s .exit) ≡ trailerWith (now (date .entry)) (now (company .entry)) n (length (now (s .entry))) ⌝ }
+{
+    let mut counter = [32; COUNT_SIZE];
+    text::put_right(&mut counter, n);
+    put_frame(&mut s[..], b"UTL  ", date, company, &counter);
 }

@@ -353,6 +353,8 @@ pub const ROW_ESN: usize = 9;
 pub const ROW_FUNCTION: usize = 11;
 
 // and those of header and trailer.
+pub const OPENER: usize = 0;
+
 pub const FRAME_DATE: usize = 1;
 
 pub const NAME: usize = 2;
@@ -360,3 +362,5 @@ pub const NAME: usize = 2;
 pub const CYCLE: usize = 3;
 
 pub const COUNT: usize = 3;
+
+pub const FRAME_STAR: usize = 5;

@@ -48,7 +48,7 @@ use Rattle.rules.proofs.GoodLaws.{GoodFile, checked-by, good-file, line
 use Rattle.rules.proofs.KeepStores.{used-after, content-ok, same-length, same-slots, slot-it, slot-else, RowAfter, row-it, row-else, row-after, put-length, put-slots}
 use Rattle.rules.proofs.SoundLaws.{date-fits, fault-shown, esn-filled}
 
-find-nowhere-below : (p : ℕ → Bool) (n : ℕ) → ((i : ℕ) → i < n → p i ≡ false) → find p n ≡ Nothing
+pub find-nowhere-below : (p : ℕ → Bool) (n : ℕ) → ((i : ℕ) → i < n → p i ≡ false) → find p n ≡ Nothing
 find-nowhere-below p n f = go (find p n) refl
   where
     go : (o : Found) → find p n ≡ o → o ≡ Nothing
@@ -61,12 +61,12 @@ is-nothing Nothing e = refl
 is-nothing (At i) e = clash-bool e refl
 
 -- a register, slot by slot
-record SlotsSound (R : List ℕ) : Type 0 where
-  long : goodLength 520 R ≡ true
-  each : (i : ℕ) → i < slots R → slotSound (slotAt R i) ≡ true
+pub record SlotsSound (R : List ℕ) : Type 0 where
+  pub long : goodLength 520 R ≡ true
+  pub each : (i : ℕ) → i < slots R → slotSound (slotAt R i) ≡ true
 
 -- it is so if it is sound
-slots-sound : (R : List ℕ) → registerSound R ≡ true → SlotsSound R
+pub slots-sound : (R : List ℕ) → registerSound R ≡ true → SlotsSound R
 unfolding registerSound unsoundSlot
 slots-sound R e =
     let l = goodLength 520 R in
@@ -126,7 +126,7 @@ record Reads (r : List ℕ) (c : Code) (d : Day) : Type 0 where
   fits : onCalendar d ≡ true
 
 -- its date is a day that a slot can have
-record-fits : (r : List ℕ) → noLater (dateOf r) ≡ true
+pub record-fits : (r : List ℕ) → noLater (dateOf r) ≡ true
 unfolding dateOf
 record-fits r = date-fits (field dataRecord date r)
 
@@ -187,11 +187,11 @@ slot-sound b d r w u c f e =
     rw (state-slot b d r, not-free b u, u, zeros-slot b d r, record-slot b d r w, f, day-slot b d r h) e
 
 -- what a used slot that is sound has in it
-record Used (s : List ℕ) : Type 0 where
-  fits : fitsSlot (recordOf s) ≡ true
-  dated : onDay (dateOf (recordOf s)) false (λ x. dayFits (stateOf s) (slotDay s) x) ≡ true
+pub record Used (s : List ℕ) : Type 0 where
+  pub fits : fitsSlot (recordOf s) ≡ true
+  pub dated : onDay (dateOf (recordOf s)) false (λ x. dayFits (stateOf s) (slotDay s) x) ≡ true
 
-used-sound : (s : List ℕ) → slotSound s ≡ true → isUsed (stateOf s) ≡ true → Used s
+pub used-sound : (s : List ℕ) → slotSound s ≡ true → isUsed (stateOf s) ≡ true → Used s
 unfolding slotSound usedSound
 used-sound s e u =
     let a = isUsed (stateOf s) in

@@ -5,6 +5,8 @@ pub mod EsnLaws
 pub mod ClashLaws
 pub mod View
 pub mod TakeLaws
+pub mod LookupLaws
+pub mod LoadLength
 pub mod FaultLaws
 pub mod GoodLaws
 pub mod KeepStores
@@ -14,4 +16,10 @@ pub mod Keep
 pub mod SoundLaws
 pub mod KeepSound
 pub mod Incident
+pub mod FrameLaws
+pub mod LoadLaws
+pub mod FileLaws
+pub mod TripLaws
+pub mod RoundTrip
 pub mod Witness
+pub mod TripWitness

@@ -87,11 +87,11 @@ fault-both a b e = go (eqb a 0) refl e
     go false q e = absurd (eqb-false a 0 q e)
 
 -- and the other way round
-no-fault : (a b : ℕ) → a ≡ 0 → b ≡ 0 → orElse a b ≡ 0
+pub no-fault : (a b : ℕ) → a ≡ 0 → b ≡ 0 → orElse a b ≡ 0
 no-fault a b p q = rw p q
 
 -- the fault of field k of a table
-abbrev faultAt : Bool → List ℕ → ℕ → List ℕ → ℕ
+abbrev pub faultAt : Bool → List ℕ → ℕ → List ℕ → ℕ
 faultAt lax s zero (at ∷ n ∷ r ∷ t) = faultBy at n r lax s (part (fromZero at) n s)
 faultAt lax s zero [] = 0
 faultAt lax s zero (x ∷ []) = 0
@@ -102,7 +102,7 @@ faultAt lax s (suc k) (x ∷ []) = 0
 faultAt lax s (suc k) (x ∷ y ∷ []) = 0
 
 -- in a line of good form no field has one
-fault-at : (lax : Bool) (s : List ℕ) (k : ℕ) (t : List ℕ) → faultIn lax s t ≡ 0 → faultAt lax s k t ≡ 0
+pub fault-at : (lax : Bool) (s : List ℕ) (k : ℕ) (t : List ℕ) → faultIn lax s t ≡ 0 → faultAt lax s k t ≡ 0
 unfolding faultIn
 fault-at lax s zero (at ∷ n ∷ r ∷ t) e = fault-both (faultBy at n r lax s (part (fromZero at) n s)) (faultIn lax s t) e .0
 fault-at lax s zero [] e = refl
@@ -113,6 +113,43 @@ fault-at lax s (suc k) (at ∷ n ∷ r ∷ t) e =
 fault-at lax s (suc k) [] e = refl
 fault-at lax s (suc k) (x ∷ []) e = refl
 fault-at lax s (suc k) (x ∷ y ∷ []) e = refl
+
+-- ---- two lines, field by field
+
+-- a test of a field's start, length and rule holds for every field of a table
+abbrev pub everyField : (ℕ → ℕ → ℕ → Bool) → List ℕ → Bool
+everyField p (at ∷ n ∷ r ∷ t) = p at n r && everyField p t
+everyField p [] = true
+everyField p (x ∷ []) = true
+everyField p (x ∷ y ∷ []) = true
+
+-- where the test holds, a field without fault in s has none in o: so has the line o, if s has none
+pub fields-keep : (p : ℕ → ℕ → ℕ → Bool) (lax : Bool) (s o : List ℕ)
+    → ((at n r : ℕ) → p at n r ≡ true → faultBy at n r lax s (part (fromZero at) n s) ≡ 0
+    → faultBy at n r lax o (part (fromZero at) n o) ≡ 0)
+    → (t : List ℕ) → everyField p t ≡ true → faultIn lax s t ≡ 0 → faultIn lax o t ≡ 0
+unfolding faultIn
+fields-keep p lax s o f (at ∷ n ∷ r ∷ t) a e =
+    let b = fault-both (faultBy at n r lax s (part (fromZero at) n s)) (faultIn lax s t) e in
+    no-fault (faultBy at n r lax o (part (fromZero at) n o)) (faultIn lax o t)
+    (f at n r (and-left (p at n r) (everyField p t) a) (b .0))
+    (fields-keep p lax s o f t (and-right (p at n r) (everyField p t) a) (b .1))
+fields-keep p lax s o f [] a e = refl
+fields-keep p lax s o f (x ∷ []) a e = refl
+fields-keep p lax s o f (x ∷ y ∷ []) a e = refl
+
+-- the rule looks at its own field only
+abbrev pub looksApart : ℕ → Bool
+looksApart r = not (eqb r highEnd) && not (eqb r parityLetter)
+
+-- so the fault of the field has nothing to do with the rest of the line
+pub fault-alike : (at n r : ℕ) (lax : Bool) (s t f : List ℕ) → looksApart r ≡ true
+    → faultBy at n r lax s f ≡ faultBy at n r lax t f
+unfolding faultBy
+fault-alike at n r lax s t f e =
+    let a = eqb r highEnd in
+    let b = eqb r parityLetter in
+    rw (not-true a (and-left (not a) (not b) e), not-true b (and-right (not a) (not b) e)) refl
 
 -- ---- a row's ESN
 
@@ -167,24 +204,8 @@ esn-there f g =
 -- a field of the table looks at no other field, and is clear of the ESN or is the ESN
 abbrev fieldApart : ℕ → ℕ → ℕ → Bool
 fieldApart at n r =
-    (not (eqb r highEnd) && not (eqb r parityLetter))
+    looksApart r
     && (clearOfEsn (fromZero at) n || (eqb (fromZero at) esnAt && (eqb n esnSize && eqb r zone)))
-
--- so it is for every field of a table
-abbrev fieldsApart : List ℕ → Bool
-fieldsApart (at ∷ n ∷ r ∷ t) = fieldApart at n r && fieldsApart t
-fieldsApart [] = true
-fieldsApart (x ∷ []) = true
-fieldsApart (x ∷ y ∷ []) = true
-
--- the fault of such a field has nothing to do with the rest of the line
-fault-alike : (at n r : ℕ) (lax : Bool) (s t f : List ℕ) → not (eqb r highEnd) && not (eqb r parityLetter) ≡ true
-    → faultBy at n r lax s f ≡ faultBy at n r lax t f
-unfolding faultBy
-fault-alike at n r lax s t f e =
-    let a = eqb r highEnd in
-    let b = eqb r parityLetter in
-    rw (not-true a (and-left (not a) (not b) e), not-true b (and-right (not a) (not b) e)) refl
 
 module _ (g r : List ℕ) (f : WholeRow g) (k : Whole r) (z : GoodEsn (rowEsnOf g)) (lax : Bool) where
   -- its ESN is the row's
@@ -195,11 +216,8 @@ module _ (g r : List ℕ) (f : WholeRow g) (k : Whole r) (z : GoodEsn (rowEsnOf 
   -- a field
   field-keeps : (at n q : ℕ) → fieldApart at n q ≡ true → faultBy at n q lax r (part (fromZero at) n r) ≡ 0
       → faultBy at n q lax (withEsn (rowEsnOf g) r) (part (fromZero at) n (withEsn (rowEsnOf g) r)) ≡ 0
-  field-keeps at n q a e = go (clearOfEsn (fromZero at) n) refl (and-right one two a)
+  field-keeps at n q a e = go (clearOfEsn (fromZero at) n) refl (and-right (looksApart q) two a)
     where
-      one : Bool
-      one = not (eqb q highEnd) && not (eqb q parityLetter)
-
       two : Bool
       two = clearOfEsn (fromZero at) n || (eqb (fromZero at) esnAt && (eqb n esnSize && eqb q zone))
 
@@ -207,7 +225,7 @@ module _ (g r : List ℕ) (f : WholeRow g) (k : Whole r) (z : GoodEsn (rowEsnOf 
           → faultBy at n q lax (withEsn (rowEsnOf g) r) (part (fromZero at) n (withEsn (rowEsnOf g) r)) ≡ 0
       go true c d =
           rw (part-with g r f k (fromZero at) n c)
-          (fault-alike at n q lax (withEsn (rowEsnOf g) r) r (part (fromZero at) n r) (and-left one two a) ∙ e)
+          (fault-alike at n q lax (withEsn (rowEsnOf g) r) r (part (fromZero at) n r) (and-left (looksApart q) two a) ∙ e)
       go false c d =
           let p = eqb (fromZero at) esnAt in
           let v = eqb n esnSize in
@@ -216,19 +234,6 @@ module _ (g r : List ℕ) (f : WholeRow g) (k : Whole r) (z : GoodEsn (rowEsnOf 
           let y : n ≡ esnSize = eqb-true n esnSize (and-left v w (and-right p (v && w) d)) in
           let u : q ≡ zone = eqb-true q zone (and-right v w (and-right p (v && w) d)) in
           rw (x, y, u, esn-part) (esn-keeps (rowEsnOf g) z at lax (withEsn (rowEsnOf g) r))
-
-  -- the fields of a table
-  fields-keep : (t : List ℕ) → fieldsApart t ≡ true → faultIn lax r t ≡ 0 → faultIn lax (withEsn (rowEsnOf g) r) t ≡ 0
-  unfolding faultIn
-  fields-keep (at ∷ n ∷ q ∷ t) a e =
-      let b = fault-both (faultBy at n q lax r (part (fromZero at) n r)) (faultIn lax r t) e in
-      let o = withEsn (rowEsnOf g) r in
-      no-fault (faultBy at n q lax o (part (fromZero at) n o)) (faultIn lax o t)
-      (field-keeps at n q (and-left (fieldApart at n q) (fieldsApart t) a) (b .0))
-      (fields-keep t (and-right (fieldApart at n q) (fieldsApart t) a) (b .1))
-  fields-keep [] a e = refl
-  fields-keep (x ∷ []) a e = refl
-  fields-keep (x ∷ y ∷ []) a e = refl
 
 -- a record of good form has it still when its blank ESN is filled in from a row of good form
 pub fault-shown : (g r : List ℕ) → WholeRow g → Whole r → rowFault guideRow g ≡ 0 → recordFault dataRecord r ≡ 0
@@ -240,7 +245,8 @@ fault-shown g r f k e d = go (hasEsn r) refl
     go true q = rw (shown-has g r f k q) d
     go false q =
         rw (shown-blank g r f k q, function-with g r f k)
-        (fields-keep g r f k (good-esn g e) (isLax (functionOf r)) dataRecord refl d)
+        (fields-keep fieldApart (isLax (functionOf r)) r (withEsn (rowEsnOf g) r)
+        (field-keeps g r f k (good-esn g e) (isLax (functionOf r))) dataRecord refl d)
 
 -- and has an ESN
 pub esn-filled : (g r : List ℕ) → WholeRow g → Whole r → rowFault guideRow g ≡ 0 → hasEsn (shown r g) ≡ true

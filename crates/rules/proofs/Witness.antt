@@ -21,7 +21,7 @@ use Rattle.rules.specs.Takes.{linesIn, goodFile, headerLine, trailerLine
 use Rattle.rules.specs.History.{historyTo, historyAfter}
 use Rattle.rules.specs.Demands.{File, start, taking, run}
 
-abbrev day : List ℕ
+abbrev pub day : List ℕ
 day = 48 ∷ 49 ∷ 48 ∷ 49 ∷ 48 ∷ 48 ∷ []
 
 -- a header of cycle 1
@@ -53,7 +53,7 @@ abbrev dataFile : List ℕ
 dataFile = opening ++ (line 73 65 ++ (line 85 65 ++ (line 77 66 ++ (line 67 65 ++ closing 52))))
 
 -- both files
-abbrev files : List File
+abbrev pub files : List File
 files =
     record { kind = Guide; bytes = guideFile; answers = 1 ∷ []; last = 0 }
     ∷ record { kind = Data; bytes = dataFile; answers = 1 ∷ 1 ∷ 1 ∷ 1 ∷ []; last = 0 }

@@ -19,12 +19,14 @@ use Rattle.rules.specs.declared.Code.{Code}
 use Rattle.rules.specs.declared.Code.the-variants.{Insert, Change, Delete, Unlock, Migrate}
 use Rattle.rules.specs.declared.Filed.{Filed}
 use Rattle.rules.specs.declared.Filed.the-variants.{Record, NoRecord}
+use Rattle.rules.specs.declared.Seen.{Seen}
 use Rattle.rules.specs.Walks.{count, onFound}
 use Rattle.rules.specs.Slots.{slotSize, slots, slotAt, stateOf, recordOf, isHeld, isOpen, isUsed, isLive, registerSound}
 use Rattle.rules.specs.Slots.{rowSlotSize, rowSlots, rowSlotAt, isPresent, rowOf, guideSound}
 use Rattle.rules.specs.Covers.{over, covers}
 use Rattle.rules.specs.Records.{filedOf, isInsert, isMigrate, isOwn, stores, findNumber, shown, Step, applied}
 use Rattle.rules.specs.Takes.{Stores, taken}
+use Rattle.rules.specs.Lookups.{isNumber, seen}
 use Rattle.rules.specs.History.{Item, entry, row, historyAfter}
 
 -- ---- "Begin with an empty register and guide of fixed size that nothing else writes. After any run of files, taken or refused"
@@ -240,6 +242,21 @@ unfoldable pub NoneUnsound : Stores → Type 0
 NoneUnsound s =
     (f : File) → (taken (f .kind) s (f .bytes) (f .answers) (f .last) .result .refusal ≢ 1)
     × (taken (f .kind) s (f .bytes) (f .answers) (f .last) .result .refusal ≢ 2)
+
+-- ---- "The dispatcher's screen": what lookup shows
+
+-- lookup of the number n answers held (open) exactly if its last accepted record is I, C or M (U), and the slot that it names is the
+-- number's entry
+pub record Shows (o : Office) (n : List ℕ) (s : Seen) : Type 0 where
+  pub answered : s .refusal ≡ 0
+  pub held : (s .state ≡ 1 → lastIs stores n (o .history) ≡ true) × (lastIs stores n (o .history) ≡ true → s .state ≡ 1)
+  pub opened : (s .state ≡ 2 → lastIs isUnlock n (o .history) ≡ true) × (lastIs isUnlock n (o .history) ≡ true → s .state ≡ 2)
+  pub entry : isLive (s .state) ≡ true → liveAt (o .stores .register) (s .slot)
+      × (numberOf (recordOf (slotAt (o .stores .register) (s .slot))) ≡ n)
+
+-- any ten digits are answered so
+unfoldable pub AllShown : Office → Type 0
+AllShown o = (n : List ℕ) → isNumber n ≡ true → Shows o n (seen (o .stores .register) n)
 
 -- ---- "Last spring a number passed to a new company, and a change from the old one came in afterwards and was taken."
 

@@ -4,6 +4,10 @@ pub mod Covers
 pub mod Records
 pub mod Rows
 pub mod Takes
+pub mod Lookups
+pub mod Loads
 pub mod History
 pub mod Cases
 pub mod Demands
+pub mod Answered
+pub mod Circle

@@ -1,6 +1,7 @@
 -- 01, "Taking a file": the refusals 1 to 9, what is applied, and what is returned, for both kinds of file.
 -- Assumes nothing.
 use Prim.Native.Nat.{ℕ, zero, suc, _+_, _*_, _-_, _/_, _%_}
+use mathlib.Core.Path.{_≡_}
 use mathlib.Core.List.{List, [], _∷_, _++_}
 use mathlib.Core.Bool.{Bool, true, false, _&&_, not, cond}
 use lib.Dec.{leb, ltb, eqb}
@@ -195,3 +196,16 @@ taken k s f answers last =
     onChecked (checked k s f (length answers) (givenCycle last))
     (λ h. appliedFile k h s f answers)
     (λ r. refusedFile r s answers last)
+
+-- what taking a data file, and a guide file, promises: the result, and each lent buffer at exit
+abbrev pub TakesData : List ℕ → List ℕ → List ℕ → List ℕ → ℕ → Taken → List ℕ → List ℕ → Type 0
+TakesData R G f answers last result register answered =
+    (result ≡ taken Data (record { register = R; guide = G }) f answers last .result)
+    × ((register ≡ taken Data (record { register = R; guide = G }) f answers last .stores .register)
+    × (answered ≡ taken Data (record { register = R; guide = G }) f answers last .answers))
+
+abbrev pub TakesGuide : List ℕ → List ℕ → List ℕ → List ℕ → ℕ → Taken → List ℕ → List ℕ → Type 0
+TakesGuide R G f answers last result guide answered =
+    (result ≡ taken Guide (record { register = R; guide = G }) f answers last .result)
+    × ((guide ≡ taken Guide (record { register = R; guide = G }) f answers last .stores .guide)
+    × (answered ≡ taken Guide (record { register = R; guide = G }) f answers last .answers))

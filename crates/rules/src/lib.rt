@@ -67,3 +67,19 @@ pub struct Taken {
     pub undone: u32,
     pub last: u32,
 }
+
+// What a lookup answers; state and slot are 0 for an absent number, all but the refusal are 0 in a refusal.
+pub struct Seen {
+    pub refusal: u32,
+    pub state: u32,
+    pub slot: u32,
+    pub looked: u32,
+}
+
+// What writing a load file returns.
+#[repr(C)]
+pub struct Loaded {
+    pub refusal: u32,
+    pub bytes: u32,
+    pub entries: u32,
+}

@@ -3,7 +3,7 @@ ghost use mathlib.Core.Path.{_≡_};
 ghost use Prim.Native.Nat.{_<_};
 ghost use Rattle.layout.specs.Tables.{dataRecord, guideRow};
 ghost use Rattle.rules.specs.Walks.{sought};
-ghost use Rattle.rules.specs.Slots.{goodLength, slots, isEntryCode, fitsSlot, dayFits, usedSound, isUnsound, unsoundSlot, registerSound, rowSlots, presentSound, isRowUnsound, unsoundRowSlot, guideSound};
+ghost use Rattle.rules.specs.Slots.{goodLength, slotSize, slots, isEntryCode, fitsSlot, dayFits, usedSound, isUnsound, unsoundSlot, registerSound, rowSlots, presentSound, isRowUnsound, unsoundRowSlot, guideSound};
 use crate::guide;
 use crate::register;
 use calendar::Date;
@@ -21,6 +21,13 @@ fn is_good_length(store: &[u8], width: usize) -> bool
 {
     let n = store.len() / width;
     (store.len() % width == 0) & ((1 <= n) & (n <= 4096))
+}
+
+// The length of a register.
+pub fn is_register_long(register: &[u8]) -> bool
+    ensures { λ r. ⌜ r ≡ goodLength slotSize (now (register .entry)) ⌝ }
+{
+    is_good_length(register, register::SLOT)
 }
 
 fn is_entry_code(b: u8) -> bool
@@ -102,7 +109,7 @@ fn find_unsound(fields: &[usize], register: &[u8]) -> Sought
 pub fn is_register_sound(register: &[u8]) -> bool
     ensures { λ r. ⌜ r ≡ registerSound (now (register .entry)) ⌝ }
 {
-    if is_good_length(register, register::SLOT) {
+    if is_register_long(register) {
         let fields: &[usize] = &table::RECORD;
         let sought = find_unsound(fields, register);
         let found = sought.found;

@@ -1,8 +1,7 @@
 // The two takes. A file is checked to its end before anything is applied.
 ghost use mathlib.Core.Path.{_≡_};
 ghost use Prim.Native.Nat.{_≤_, _-_};
-ghost use Rattle.rules.specs.declared.Kind.the-variants.{Data, Guide};
-ghost use Rattle.rules.specs.Takes.{taken};
+ghost use Rattle.rules.specs.Takes.{TakesData, TakesGuide};
 use crate::apply;
 use crate::checks;
 use layout::counter::Cycle;
@@ -53,9 +52,7 @@ pub fn take_data(
     answers: &mut [u8],
     last: u32,
 ) -> Taken
-    ensures { λ r. ⌜ (r ≡ taken Data (record { register = now (register .entry); guide = now (guide .entry) }) (now (file .entry)) (now (answers .entry)) last .result)
-        × ((now (register .exit) ≡ taken Data (record { register = now (register .entry); guide = now (guide .entry) }) (now (file .entry)) (now (answers .entry)) last .stores .register)
-        × (now (answers .exit) ≡ taken Data (record { register = now (register .entry); guide = now (guide .entry) }) (now (file .entry)) (now (answers .entry)) last .answers)) ⌝ }
+    ensures { λ r. ⌜ TakesData (now (register .entry)) (now (guide .entry)) (now (file .entry)) (now (answers .entry)) last r (now (register .exit)) (now (answers .exit)) ⌝ }
 {
     let room = answers.len();
     let checked = checks::check_file(
@@ -84,9 +81,7 @@ pub fn take_guide(
     answers: &mut [u8],
     last: u32,
 ) -> Taken
-    ensures { λ r. ⌜ (r ≡ taken Guide (record { register = now (register .entry); guide = now (guide .entry) }) (now (file .entry)) (now (answers .entry)) last .result)
-        × ((now (guide .exit) ≡ taken Guide (record { register = now (register .entry); guide = now (guide .entry) }) (now (file .entry)) (now (answers .entry)) last .stores .guide)
-        × (now (answers .exit) ≡ taken Guide (record { register = now (register .entry); guide = now (guide .entry) }) (now (file .entry)) (now (answers .entry)) last .answers)) ⌝ }
+    ensures { λ r. ⌜ TakesGuide (now (register .entry)) (now (guide .entry)) (now (file .entry)) (now (answers .entry)) last r (now (guide .exit)) (now (answers .exit)) ⌝ }
 {
     let room = answers.len();
     let checked = checks::check_file(

@@ -5,8 +5,8 @@ use Rattle.rules.specs.Slots.{registerSound}
 use Rattle.stores.proofs.sound.is_register_sound.Tie as tie
 use Rattle.stores.proofs.sound.is_register_sound.Statement.{statement}
 
-is-good-length-requires : tie.Need-is-good-length-requires
-is-good-length-requires c κs = search needs
+is-register-long-requires : tie.Need-is-register-long-requires
+is-register-long-requires c κs = search needs
 
 slice-aggregate-fields : tie.Need-slice-aggregate-fields
 slice-aggregate-fields c = search needs
@@ -23,22 +23,22 @@ enum-told-2 c = search needs
 returns : tie.Need-returns
 unfolding registerSound
 returns c = let e = ap (λ (x : Sought). x .found) (c .before .before .find-unsound .ensures) in
-    rw (← c .before .before .before .before .before .is-good-length .ensures, c .before .before .before .before .if1 .taken, ← e, c .enum-told2 .given .1)
+    rw (← c .before .before .before .before .before .is-register-long .ensures, c .before .before .before .before .if1 .taken, ← e, c .enum-told2 .given .1)
 
 returns-2 : tie.Need-returns-2
 unfolding registerSound
 returns-2 c = let e = ap (λ (x : Sought). x .found) (c .before .before .find-unsound .ensures) in
-    rw (← c .before .before .before .before .before .is-good-length .ensures, c .before .before .before .before .if1 .taken, ← e, c .enum-told .given .1)
+    rw (← c .before .before .before .before .before .is-register-long .ensures, c .before .before .before .before .if1 .taken, ← e, c .enum-told .given .1)
 
 returns-3 : tie.Need-returns-3
 unfolding registerSound
-returns-3 c = rw (← c .before .is-good-length .ensures, c .if1 .left)
+returns-3 c = rw (← c .before .is-register-long .ensures, c .if1 .left)
 
 pub is-register-sound-spec : {M : Type 1} → statement M
 is-register-sound-spec =
     tie.close
     (tie.spec
-    is-good-length-requires
+    is-register-long-requires
     slice-aggregate-fields
     find-unsound-requires
     enum-told

@@ -1,0 +1,79 @@
+use Rattle.rules.specs.Loads.{isEntry, entryAt, entriesIn}
+use Rattle.loading.proofs.WriteLaws.{at-most-one, Counted, counted-none, counted-more}
+use borrow.Author.Needs.{needs}
+use mathlib.Core.Path.{_≡_, ap, _∙_}
+use Prim.Native.Nat.{ℕ, _-_, _/_}
+use native.Mathlib.Omega.{arith}
+use lib.ListN.{length}
+use mathlib.Core.List.{List}
+use denote.Ref.{now}
+use Rattle.rules.proofs.PlaceLaws.{place-part}
+use Rattle.loading.proofs.count_entries.Statement.{statement}
+use Rattle.loading.proofs.count_entries.Tie as tie
+
+abbrev Inv-loop : tie.InvT-loop
+Inv-loop register n entries₀ i₀ entries i = Counted (entryAt register) n i entries
+
+abbrev μ-loop : tie.MeasureT-loop
+μ-loop register n entries₀ i₀ entries i = n - i
+
+loop-holds : tie.Need-loop-holds Inv-loop μ-loop
+loop-holds c = counted-none _ _
+
+mul-a : tie.Need-mul-a Inv-loop μ-loop
+mul-a c = search needs
+
+add-e : tie.Need-add-e Inv-loop μ-loop
+add-e c = search needs
+
+sub-is-entry : tie.Need-sub-is-entry Inv-loop μ-loop
+sub-is-entry c = search needs
+
+part-is-entry-start : tie.Need-part-is-entry-start Inv-loop μ-loop
+part-is-entry-start c = search needs
+
+part-is-entry-end : tie.Need-part-is-entry-end Inv-loop μ-loop
+part-is-entry-end c = search needs
+
+is-entry-requires : tie.Need-is-entry-requires Inv-loop μ-loop
+is-entry-requires c κs = search needs
+
+one-if-requires : tie.Need-one-if-requires Inv-loop μ-loop
+one-if-requires c κs = search needs
+
+add-entries : tie.Need-add-entries Inv-loop μ-loop
+add-entries c = omega (arith, c .before .before .before .before .loop .inv .few, c .before .before .before .before .loop .inv .within, at-most-one (c .before .is-entry .result), c .one-if .ensures)
+
+add-i : tie.Need-add-i Inv-loop μ-loop
+add-i c = search needs
+
+loop-less : tie.Need-loop-less Inv-loop μ-loop
+loop-less c = search needs
+
+loop-again : tie.Need-loop-again Inv-loop μ-loop
+unfolding entryAt
+loop-again c = counted-more (entryAt (c .before .before .before .before .before .before .args .register .now)) _ _ _ _ _ (c .before .before .before .before .loop .inv) (c .before .before .before .loop-test .taken) (c .before .is-entry .ensures ∙ ap (λ (s : List ℕ). isEntry s) (place-part 520 (c .before .before .before .before .before .before .args .register .now) (c .before .before .before .before .loop .i))) (c .one-if .ensures)
+
+returns : tie.Need-returns Inv-loop μ-loop
+unfolding entriesIn
+returns c = let z : c .before .loop .i ≡ length (c .before .before .before .args .register .now) / 520 = omega (arith, c .before .loop .inv .within) in (rw (← z) (c .before .loop .inv .counted), omega (arith, c .before .loop .inv .few, c .before .loop .inv .within))
+
+pub count-entries-spec : {M : Type 1} → statement M
+count-entries-spec =
+    tie.close
+    (tie.spec
+    Inv-loop
+    μ-loop
+    loop-holds
+    mul-a
+    add-e
+    sub-is-entry
+    part-is-entry-start
+    part-is-entry-end
+    is-entry-requires
+    one-if-requires
+    add-entries
+    add-i
+    loop-less
+    loop-again
+    returns)

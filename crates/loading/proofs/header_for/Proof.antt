@@ -1,0 +1,50 @@
+use Rattle.rules.specs.Loads.{headerFor, loadHeader}
+use Rattle.layout.specs.Tables.{header}
+use Rattle.layout.specs.declared.counter.Cycle.{Cycle}
+use mathlib.Core.Path.{refl, ap, _∙_}
+use Prim.Native.Nat.{ℕ}
+use mathlib.Core.List.{List}
+use denote.Ref.{now}
+use Rattle.layout.specs.Frames.{headerOf, headerWith}
+use borrow.Author.Needs.{needs}
+use Rattle.loading.proofs.header_for.Statement.{statement}
+use Rattle.loading.proofs.header_for.Tie as tie
+
+slice-aggregate-fields : tie.Need-slice-aggregate-fields
+slice-aggregate-fields c = search needs
+
+slice-aggregate-put-header : tie.Need-slice-aggregate-put-header
+slice-aggregate-put-header c = search needs
+
+given-requires : tie.Need-given-requires
+given-requires c κs = search needs
+
+put-header-requires : tie.Need-put-header-requires
+put-header-requires c κs = search needs
+
+slice-aggregate-header-in : tie.Need-slice-aggregate-header-in
+slice-aggregate-header-in c = search needs
+
+header-in-requires : tie.Need-header-in-requires
+header-in-requires c κs = search needs
+
+returns : tie.Need-returns
+unfolding loadHeader headerFor
+returns c = rw (c .before .before .before .before .before .before .before .if1 .taken) (c .header-in .ensures ∙ ap (λ (s : List ℕ). headerOf header s) (c .before .before .before .put-header .ensures ∙ ap (λ (x : Cycle). headerWith (c .before .before .before .before .before .before .before .before .before .before .args .date .now) (c .before .before .before .before .before .before .before .before .before .before .args .company .now) (x .0) 200) (c .before .before .before .before .given .ensures)))
+
+returns-2 : tie.Need-returns-2
+unfolding loadHeader
+returns-2 c = rw (c .if1 .left) refl
+
+pub header-for-spec : {M : Type 1} → statement M
+header-for-spec =
+    tie.close
+    (tie.spec
+    slice-aggregate-fields
+    slice-aggregate-put-header
+    given-requires
+    put-header-requires
+    slice-aggregate-header-in
+    header-in-requires
+    returns
+    returns-2)

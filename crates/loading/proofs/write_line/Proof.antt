@@ -1,0 +1,24 @@
+use Rattle.loading.proofs.WriteLaws.{put-all}
+use mathlib.Core.Path.{ap, _∙_}
+use Prim.Native.Nat.{ℕ}
+use mathlib.Core.List.{List}
+use denote.Ref.{now}
+use Rattle.layout.specs.Fields.{forLoad}
+use borrow.Author.Needs.{needs}
+use Rattle.loading.proofs.write_line.Statement.{statement}
+use Rattle.loading.proofs.write_line.Tie as tie
+
+put-requires : tie.Need-put-requires
+put-requires c κs = search needs
+
+mark-for-load-requires : tie.Need-mark-for-load-requires
+mark-for-load-requires c κs = search needs
+
+same-length : tie.Need-same-length
+same-length c = search needs
+
+returns : tie.Need-returns
+returns c = c .before .before .mark-for-load .ensures ∙ ap (λ (s : List ℕ). forLoad s) (c .before .before .before .before .before .before .put .ensures ∙ put-all (c .before .before .before .before .before .before .before .before .before .before .args .rec .now) (c .before .before .before .before .before .before .before .before .before .before .args .line .now) (c .before .before .before .before .before .before .before .before .before .before .pre))
+
+pub write-line-spec : {M : Type 1} → statement M
+write-line-spec = tie.close (tie.spec put-requires mark-for-load-requires same-length returns)

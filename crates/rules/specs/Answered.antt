@@ -1,0 +1,131 @@
+-- The brief's first demand, as statements: "Every file, register and guide handed over, however damaged, is answered. In taking and
+-- writing, a bad one is refused by a number from the description, and a refused file changes no byte lent to us. A refused record
+-- changes only its own answer byte." Proved in `proofs/Answers`, for all inputs: take-answered, line-answered, load-answered,
+-- lookup-answered; and one outcome for each of the four promises: one-data, one-guide, one-load, one-lookup.
+-- Assumes nothing.
+use Prim.Native.Nat.{ℕ, _+_, _*_, _/_, _%_, _≤_, _<_}
+use mathlib.Core.Path.{_≡_}
+use mathlib.Core.Logic.{_≢_}
+use mathlib.Core.List.{List, [], _∷_}
+use mathlib.Core.Bool.{true}
+use lib.ListN.{length, drop, getD}
+use Rattle.text.specs.Text.{memberOf}
+use Rattle.layout.specs.declared.frame.Header.{Header}
+use Rattle.rules.specs.declared.Kind.{Kind}
+use Rattle.rules.specs.declared.Kind.the-variants.{Data, Guide}
+use Rattle.rules.specs.declared.Taken.{Taken}
+use Rattle.rules.specs.declared.Loaded.{Loaded}
+use Rattle.rules.specs.Takes.{Stores, Outcome, Answered, lineTable, linesIn, lineApplied, taken, TakesData, TakesGuide}
+use Rattle.rules.specs.Lookups.{seen, packed, LooksUp}
+use Rattle.rules.specs.Loads.{Load, loaded, WritesLoad}
+
+-- ---- the numbers
+
+abbrev pub takeNumbers : List ℕ
+takeNumbers = 0 ∷ 1 ∷ 2 ∷ 3 ∷ 4 ∷ 5 ∷ 6 ∷ 7 ∷ 8 ∷ 9 ∷ []
+
+abbrev pub answerNumbers : Kind → List ℕ
+answerNumbers Data = 0 ∷ 11 ∷ 12 ∷ 13 ∷ 14 ∷ 15 ∷ 16 ∷ 17 ∷ 18 ∷ 19 ∷ 20 ∷ []
+answerNumbers Guide = 0 ∷ 21 ∷ 22 ∷ 23 ∷ 24 ∷ []
+
+abbrev pub loadNumbers : List ℕ
+loadNumbers = 0 ∷ 1 ∷ 25 ∷ 26 ∷ []
+
+abbrev pub lookupNumbers : List ℕ
+lookupNumbers = 0 ∷ 1 ∷ 10 ∷ []
+
+-- the first bytes of a table's fields
+abbrev pub startsIn : List ℕ → List ℕ
+startsIn (at ∷ n ∷ r ∷ t) = at ∷ startsIn t
+startsIn [] = []
+startsIn (x ∷ []) = []
+startsIn (x ∷ y ∷ []) = []
+
+-- ---- a take
+
+-- "A refusal returns .. counts of 0 and the last cycle as given, and changes nothing lent"
+pub record TakeRefused (s : Stores) (before : List ℕ) (given : ℕ) (o : Outcome) : Type 0 where
+  pub stores : o .stores ≡ s
+  pub answers : o .answers ≡ before
+  pub records : o .result .records ≡ 0
+  pub done : o .result .done ≡ 0
+  pub undone : o .result .undone ≡ 0
+  pub last : o .result .last ≡ given
+
+-- "answer byte i is written, bytes past n stay. Returned: n, how many answers are 0, how many not"; place and position are 0
+pub record TakeDone (k : Kind) (f answers : List ℕ) (o : Outcome) : Type 0 where
+  pub records : o .result .records ≡ linesIn k f
+  pub counts : o .result .done + o .result .undone ≡ linesIn k f
+  pub each : (i : ℕ) → i < linesIn k f → memberOf (getD (o .answers) i 0) (answerNumbers k) ≡ true
+  pub rest : drop (linesIn k f) (o .answers) ≡ drop (linesIn k f) answers
+
+-- "(both 0 except in 9: first bad record from 1, first byte of its first bad field)"
+pub record Placed (k : Kind) (f : List ℕ) (t : Taken) : Type 0 where
+  pub from : 1 ≤ t .place
+  pub to : t .place ≤ linesIn k f
+  pub field : memberOf (t .position) (startsIn (lineTable k)) ≡ true
+
+pub record TakeAnswered (k : Kind) (s : Stores) (f answers : List ℕ) (last : ℕ) (o : Outcome) : Type 0 where
+  pub number : memberOf (o .result .refusal) takeNumbers ≡ true
+  pub refused : o .result .refusal ≢ 0 → TakeRefused s answers last o
+  pub done : o .result .refusal ≡ 0 → TakeDone k f answers o
+  pub placed : o .result .refusal ≡ 9 → Placed k f (o .result)
+  pub unplaced : o .result .refusal ≢ 9 → (o .result .place ≡ 0) × (o .result .position ≡ 0)
+
+unfoldable pub TakesAnswer : Type 0
+TakesAnswer =
+    (k : Kind) (s : Stores) (f answers : List ℕ) (last : ℕ) → TakeAnswered k s f answers last (taken k s f answers last)
+
+-- "A refused record changes only its own answer byte": it leaves both stores as they were
+pub record LineAnswered (k : Kind) (s : Stores) (a : Answered) : Type 0 where
+  pub number : memberOf (a .answer) (answerNumbers k) ≡ true
+  pub refused : a .answer ≢ 0 → a .stores ≡ s
+
+unfoldable pub LinesAnswer : Type 0
+LinesAnswer = (k : Kind) (h : Header) (r : List ℕ) (s : Stores) → LineAnswered k s (lineApplied k h r s)
+
+-- ---- the load file
+
+pub record LoadAnswered (out : List ℕ) (l : Load) : Type 0 where
+  pub number : memberOf (l .result .refusal) loadNumbers ≡ true
+  pub refused : l .result .refusal ≢ 0 → (l .result .bytes ≡ 0) × ((l .result .entries ≡ 0) × (l .output ≡ out))
+  pub sized : l .result .refusal ≡ 0 → l .result .bytes ≡ 400 + l .result .entries * 512
+  pub rest : drop (l .result .bytes) (l .output) ≡ drop (l .result .bytes) out
+
+unfoldable pub LoadsAnswer : Type 0
+LoadsAnswer =
+    (R date company : List ℕ) (c : ℕ) (out : List ℕ) → LoadAnswered out (loaded R date company c out)
+
+-- ---- lookup
+
+-- what is unpacked of the number, bits 0 to 15, 16 to 31, 32 to 35 and 36 to 39, is what was seen; nothing stands above them
+pub record LookupAnswered (R n : List ℕ) (a : ℕ) : Type 0 where
+  pub number : memberOf (seen R n .refusal) lookupNumbers ≡ true
+  pub refused : seen R n .refusal ≢ 0 → a ≡ seen R n .refusal * 68719476736
+  pub looked : a % 65536 ≡ seen R n .looked
+  pub slot : a / 65536 % 65536 ≡ seen R n .slot
+  pub state : a / 4294967296 % 16 ≡ seen R n .state
+  pub refusal : a / 68719476736 ≡ seen R n .refusal
+
+unfoldable pub LookupsAnswer : Type 0
+LookupsAnswer = (R n : List ℕ) → LookupAnswered R n (packed (seen R n))
+
+-- ---- "Show that the promise admits one outcome"
+
+unfoldable pub OneData : Type 0
+OneData =
+    (R G f answers : List ℕ) (last : ℕ) (t u : Taken) (S T a b : List ℕ)
+    → TakesData R G f answers last t S a → TakesData R G f answers last u T b → (t ≡ u) × ((S ≡ T) × (a ≡ b))
+
+unfoldable pub OneGuide : Type 0
+OneGuide =
+    (R G f answers : List ℕ) (last : ℕ) (t u : Taken) (S T a b : List ℕ)
+    → TakesGuide R G f answers last t S a → TakesGuide R G f answers last u T b → (t ≡ u) × ((S ≡ T) × (a ≡ b))
+
+unfoldable pub OneLoad : Type 0
+OneLoad =
+    (R date company : List ℕ) (c : ℕ) (out : List ℕ) (l m : Loaded) (a b : List ℕ)
+    → WritesLoad R date company c out l a → WritesLoad R date company c out m b → (l ≡ m) × (a ≡ b)
+
+unfoldable pub OneLookup : Type 0
+OneLookup = (R n : List ℕ) (a b : ℕ) → LooksUp R n a → LooksUp R n b → a ≡ b

@@ -1,0 +1,76 @@
+// A call: its line names the take and what it is lent, `take_data last=0 register=(00*520) ..`.
+use crate::read;
+use crate::write;
+use rules::Taken;
+use taking::take;
+
+const SPACE: u8 = 32;
+
+// Whether the line is a call of take_data; else it is one of take_guide.
+fn is_data(line: &[u8]) -> bool {
+    let e = bytes::scan::find(line, 0, line.len(), SPACE);
+    text::same(&line[0..e], b"take_data")
+}
+
+// What the take returns.
+fn taken(
+    data: bool,
+    register: &mut [u8],
+    guide: &mut [u8],
+    file: &[u8],
+    answers: &mut [u8],
+    last: u32,
+) -> Taken {
+    if data {
+        return take::take_data(&mut register[..], &guide[..], file, &mut answers[..], last);
+    }
+    take::take_guide(&register[..], &mut guide[..], file, &mut answers[..], last)
+}
+
+fn returned(t: Taken) {
+    write::number(b"refusal=", t.refusal);
+    write::number(b" place=", t.place);
+    write::number(b" position=", t.position);
+    write::number(b" n=", t.records);
+    write::number(b" done=", t.done);
+    write::number(b" undone=", t.undone);
+    write::number(b" last=", t.last);
+}
+
+// A line's call with its parts: what it returned, and what each part holds then.
+fn call(line: &[u8], register: &mut [u8], guide: &mut [u8], file: &[u8], answers: &mut [u8]) {
+    let last = read::number(read::value(line, b"last="));
+    let data = is_data(line);
+    returned(taken(
+        data,
+        &mut register[..],
+        &mut guide[..],
+        file,
+        &mut answers[..],
+        last,
+    ));
+    write::part(line, b"register=", &register[..]);
+    write::part(line, b"guide=", &guide[..]);
+    write::part(line, b"file=", file);
+    write::part(line, b"answers=", &answers[..]);
+    write::line_end();
+}
+
+// The call of a line. Each part has room for the largest of stdin.
+pub fn run(line: &[u8]) {
+    let mut register = [0u8; 32768];
+    let mut guide = [0u8; 8192];
+    let mut file = [0u8; 8192];
+    let mut answers = [0u8; 64];
+    let r = read::part(&mut register, line, b"register=");
+    let g = read::part(&mut guide, line, b"guide=");
+    let f = read::part(&mut file, line, b"file=");
+    let a = read::part(&mut answers, line, b"answers=");
+    call(
+        line,
+        &mut register[0..r],
+        &mut guide[0..g],
+        &file[0..f],
+        &mut answers[0..a],
+    );
+}

@@ -1,0 +1,26 @@
+// Calls of the two takes. Each line of standard input is a call, and the line that is written for it says what it returned and
+// what each lent part holds then; the file stdout says what it must be. Both files were made from 01 alone, and not by this
+// program. They have each refusal and each answer of both takes, a fault in each field, each code at each state of a slot, and
+// files of several lines.
+mod calls;
+mod read;
+mod write;
+
+const LINE_END: u8 = 10;
+
+// A call for each line.
+fn each(input: &[u8]) {
+    let mut i = 0;
+    while i < input.len() {
+        let e = bytes::scan::find(input, i, input.len(), LINE_END);
+        calls::run(&input[i..e]);
+        i = e + 1;
+    }
+}
+
+fn main() {
+    // More than the file stdin has.
+    let mut input = [0u8; 262144];
+    let n = io::read_full(0, &mut input);
+    each(&input[..n]);
+}
