@@ -17,19 +17,11 @@ use Rattle.text.specs.Text.{sameBytes, onNumber}
 use Rattle.text.proofs.Laws.{and-left, and-right, same-true, same-refl}
 use Rattle.layout.specs.Fields.{houseOf, streetOf, placeOf, rowStreetOf, rowPlaceOf, lowOf, highOf, parityOf, allows}
 use Rattle.rules.specs.Covers.{hits, over, covers, sameStreet, bothAllow, meetFrom, meets, clash}
-use Rattle.rules.proofs.WalkLaws.{decided, clash-bool}
+use Rattle.rules.proofs.WalkLaws.{decided, clash-bool, or-left, or-right}
 
 allows-alike : (p m n : ℕ) → m % 2 ≡ n % 2 → allows p m ≡ allows p n
 unfolding allows
 allows-alike p m n e = rw e
-
--- one of two suffices
-or-left : (a b : Bool) → a ≡ true → a || b ≡ true
-or-left a b e = rw e
-
-or-right : (a b : Bool) → b ≡ true → a || b ≡ true
-or-right true b e = refl
-or-right false b e = e
 
 -- the test of one number
 both-of : (p q high n : ℕ) → n ≤ high → allows p n ≡ true → allows q n ≡ true → leb n high && bothAllow p q n ≡ true

@@ -1,68 +1,100 @@
--- A fault is no further than the last field's start: in refusal 9 the position is at most 512.
+-- The fault of a line is the start of a field of its table: the position of refusal 9, at most 512.
 -- Assumes nothing.
 use mathlib.Core.Path.{_≡_, refl}
-use mathlib.Core.Bool.{Bool, true, false, _&&_, cond}
+use mathlib.Core.Logic.{_≢_}
+use mathlib.Core.Bool.{Bool, true, false, _&&_, _||_, cond}
 use mathlib.Core.List.{List, [], _∷_}
 use Prim.Native.Nat.{ℕ, _≤_}
 use native.Mathlib.Omega.{arith}
 use lib.Dec.{leb, ltb, eqb}
-use borrow.Author.Tests.{leb-true}
+use borrow.Author.Tests.{leb-true, eqb-true, eq-eqb}
 use Rattle.text.specs.declared.Spelled.{Spelled}
 use Rattle.text.specs.declared.Spelled.the-variants.{Number, NoNumber}
-use Rattle.text.specs.Text.{part, onNumber}
+use Rattle.text.specs.Text.{part, onNumber, memberOf}
 use Rattle.text.proofs.Laws.{and-left, and-right}
 use Rattle.layout.specs.Tables.{dataRecord, guideRow, house, lowEnd, highEnd, parityLetter}
 use Rattle.layout.specs.Fields.{functionOf, houseIn, endIn, lowOf, highOf, parityOf, allows}
 use Rattle.layout.specs.Rules.{keeps, houseFault, endFault, highFault, parityFault, isWhole, faultBy, fromZero, faultIn, isLax, recordFault, rowFault}
 use Rattle.rules.specs.declared.Kind.{Kind}
 use Rattle.rules.specs.declared.Kind.the-variants.{Data, Guide}
-use Rattle.rules.specs.Takes.{lineFault}
+use Rattle.rules.specs.Takes.{lineTable, lineFault}
+use Rattle.rules.specs.Answered.{startsIn}
+use Rattle.rules.proofs.WalkLaws.{clash-bool, or-right}
 
-pick-le : (b : Bool) (x y a : ℕ) → x ≤ a → y ≤ a → cond b x y ≤ a
-pick-le true x y a p q = p
-pick-le false x y a p q = q
+-- ---- P is so of a fault, if it is so of 0 and of each field's start
 
-number-le : (o : Spelled) (x a : ℕ) (k : ℕ → ℕ) → x ≤ a → ((n : ℕ) → k n ≤ a) → onNumber o x k ≤ a
-number-le (Number n) x a k p q = q n
-number-le NoNumber x a k p q = p
+module _ (P : ℕ → Type 0) where
+  -- of what is made of a test
+  on-test : (b : Bool) (x y : ℕ) → P x → P y → P (cond b x y)
+  on-test true x y p q = p
+  on-test false x y p q = q
 
--- a field's fault is its start, or 0
-pub fault-by-le : (at n r : ℕ) (lax : Bool) (s f : List ℕ) → faultBy at n r lax s f ≤ at
-unfolding faultBy houseFault endFault highFault parityFault
-fault-by-le at n r lax s f =
-    pick-le (isWhole n f) _ at at
-    (pick-le (eqb r house) _ _ at (number-le (houseIn f) at at (λ n. 0) (omega arith) (λ n. omega arith))
-    (pick-le (eqb r lowEnd) _ _ at (number-le (endIn f) at at (λ n. 0) (omega arith) (λ n. omega arith))
-    (pick-le (eqb r highEnd) _ _ at
-    (number-le (highOf s) at at _ (omega arith) (λ high.
-    number-le (lowOf s) at at _ (omega arith) (λ low.
-    pick-le (ltb high low) at 0 at (omega arith) (omega arith))))
-    (pick-le (eqb r parityLetter) _ _ at
-    (number-le (lowOf s) at at _ (omega arith) (λ low.
-    number-le (highOf s) at at _ (omega arith) (λ high.
-    pick-le (allows (parityOf s) low && allows (parityOf s) high) 0 at at (omega arith) (omega arith))))
-    (pick-le (keeps r lax f) 0 at at (omega arith) (omega arith))))))
-    (omega arith)
+  -- of a number that is spelled, or is not
+  on-number : (o : Spelled) (x : ℕ) (k : ℕ → ℕ) → P x → ((n : ℕ) → P (k n)) → P (onNumber o x k)
+  on-number (Number n) x k p q = q n
+  on-number NoNumber x k p q = p
 
--- each field of a table starts at m or before
-abbrev startsUpTo : ℕ → List ℕ → Bool
-startsUpTo m (at ∷ n ∷ r ∷ t) = leb at m && startsUpTo m t
-startsUpTo m [] = true
-startsUpTo m (x ∷ []) = true
-startsUpTo m (x ∷ y ∷ []) = true
+  -- a field's fault is its start, or 0
+  fault-by : (at n r : ℕ) (lax : Bool) (s f : List ℕ) → P 0 → P at → P (faultBy at n r lax s f)
+  unfolding faultBy houseFault endFault highFault parityFault
+  fault-by at n r lax s f z p =
+      on-test (isWhole n f) _ at
+      (on-test (eqb r house) _ _ (on-number (houseIn f) at (λ n. 0) p (λ n. z))
+      (on-test (eqb r lowEnd) _ _ (on-number (endIn f) at (λ n. 0) p (λ n. z))
+      (on-test (eqb r highEnd) _ _
+      (on-number (highOf s) at _ p (λ high.
+      on-number (lowOf s) at _ p (λ low.
+      on-test (ltb high low) at 0 p z)))
+      (on-test (eqb r parityLetter) _ _
+      (on-number (lowOf s) at _ p (λ low.
+      on-number (highOf s) at _ p (λ high.
+      on-test (allows (parityOf s) low && allows (parityOf s) high) 0 at z p)))
+      (on-test (keeps r lax f) 0 at z p)))))
+      p
 
-pub fault-in-le : (lax : Bool) (s : List ℕ) (m : ℕ) (t : List ℕ) → startsUpTo m t ≡ true → faultIn lax s t ≤ m
-unfolding faultIn
-fault-in-le lax s m (at ∷ n ∷ r ∷ t) e =
-    let h = leb-true at m (and-left (leb at m) (startsUpTo m t) e) in
-    let f = faultBy at n r lax s (part (fromZero at) n s) in
-    let g = fault-by-le at n r lax s (part (fromZero at) n s) in
-    pick-le (eqb f 0) (faultIn lax s t) f m (fault-in-le lax s m t (and-right (leb at m) (startsUpTo m t) e)) (omega arith)
-fault-in-le lax s m [] e = omega arith
-fault-in-le lax s m (x ∷ []) e = omega arith
-fault-in-le lax s m (x ∷ y ∷ []) e = omega arith
+  -- the fault of a line is the start of a field of its table, or 0
+  pub fault-in : (lax : Bool) (s t : List ℕ) → P 0 → ((at : ℕ) → memberOf at (startsIn t) ≡ true → P at) → P (faultIn lax s t)
+  unfolding faultIn
+  fault-in lax s (at ∷ n ∷ r ∷ t) z p =
+      on-test (eqb (faultBy at n r lax s (part (fromZero at) n s)) 0) _ _
+      (fault-in lax s t z (λ a e. p a (or-right (eqb at a) (memberOf a (startsIn t)) e)))
+      (fault-by at n r lax s (part (fromZero at) n s) z (p at (rw (eq-eqb at at refl))))
+  fault-in lax s [] z p = z
+  fault-in lax s (x ∷ []) z p = z
+  fault-in lax s (x ∷ y ∷ []) z p = z
 
+  -- of a data record, and of a guide row
+  pub line-fault : (k : Kind) (s : List ℕ) → P 0 → ((at : ℕ) → memberOf at (startsIn (lineTable k)) ≡ true → P at)
+      → P (lineFault k s)
+  unfolding recordFault rowFault
+  line-fault Data s z p = fault-in (isLax (functionOf s)) s dataRecord z p
+  line-fault Guide s z p = fault-in false s guideRow z p
+
+-- ---- of a line
+
+-- a line that breaks a field rule does so in a field of its table
+pub line-fault-starts : (k : Kind) (s : List ℕ) → lineFault k s ≢ 0 → memberOf (lineFault k s) (startsIn (lineTable k)) ≡ true
+line-fault-starts k s n =
+    line-fault (λ v. v ≢ 0 → memberOf v (startsIn (lineTable k)) ≡ true) k s (λ z. absurd (z refl)) (λ at e z. e) n
+
+-- each number of a list is at most m
+abbrev allUpTo : ℕ → List ℕ → Bool
+allUpTo m [] = true
+allUpTo m (a ∷ l) = leb a m && allUpTo m l
+
+-- so is each of its members
+member-le : (m : ℕ) (l : List ℕ) → allUpTo m l ≡ true → (a : ℕ) → memberOf a l ≡ true → a ≤ m
+member-le m [] h a e = clash-bool e refl
+member-le m (b ∷ l) h a e = go (member-le m l (and-right (leb b m) (allUpTo m l) h) a) (eqb b a) refl e
+  where
+    go : (memberOf a l ≡ true → a ≤ m) → (v : Bool) → eqb b a ≡ v → v || memberOf a l ≡ true → a ≤ m
+    go ih true q e = rw (← eqb-true b a q) (leb-true b m (and-left (leb b m) (allUpTo m l) h))
+    go ih false q e = ih e
+
+-- the last field of either table starts at 512 or before
 pub line-fault-le : (k : Kind) (s : List ℕ) → lineFault k s ≤ 512
-unfolding recordFault rowFault
-line-fault-le Data s = fault-in-le (isLax (functionOf s)) s 512 dataRecord refl
-line-fault-le Guide s = fault-in-le false s 512 guideRow refl
+line-fault-le k s = line-fault (λ v. v ≤ 512) k s (omega arith) (member-le 512 (startsIn (lineTable k)) (all k))
+  where
+    all : (k : Kind) → allUpTo 512 (startsIn (lineTable k)) ≡ true
+    all Data = refl
+    all Guide = refl

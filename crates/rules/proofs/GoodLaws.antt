@@ -2,13 +2,14 @@
 -- Assumes nothing.
 -- what is known of a file that passes
 use mathlib.Core.Path.{_≡_, refl, subst}
+use mathlib.Core.Logic.{_≢_}
 use mathlib.Core.Bool.{Bool, true, false, _&&_, cond}
 use mathlib.Core.List.{List}
 use Prim.Native.Nat.{ℕ, _+_, _*_, _-_, _/_, _%_, _<_}
 use native.Mathlib.Omega.{arith}
 use lib.Dec.{leb, eqb}
 use lib.ListN.{length}
-use borrow.Author.Tests.{eqb-true, leb-true}
+use borrow.Author.Tests.{eqb-true, eqb-false, leb-true}
 use Rattle.text.proofs.Laws.{and-left, and-right}
 use Rattle.layout.specs.declared.frame.Header.{Header}
 use Rattle.layout.specs.declared.counter.Cycle.{Cycle}
@@ -29,7 +30,7 @@ use Rattle.rules.specs.declared.Checked.the-variants.{Good, Refused}
 use Rattle.rules.specs.Walks.{find, onFound}
 use Rattle.rules.specs.Slots.{registerSound, guideSound}
 use Rattle.rules.specs.Takes.{Stores, lineSize, lineFault, linesIn, goodFile, headerLine, trailerLine, lineAt, refuse, badLine, linesChecked, trailerChecked, frameChecked, checked}
-use Rattle.rules.proofs.WalkLaws.{find-none, not-false}
+use Rattle.rules.proofs.WalkLaws.{find-some, find-none, not-false, not-true}
 use Rattle.rules.proofs.PlaceLaws.{part-length}
 
 pub record GoodFile (k : Kind) (s : Stores) (f : List ℕ) : Type 0 where
@@ -47,8 +48,8 @@ module _ (P : Checked → Type 0) where
   on-test false x y p q = q refl
 
   -- of a place
-  on-found : (o : Found) (x : Checked) (k : ℕ → Checked) → (o ≡ Nothing → P x) → ((i : ℕ) → P (k i)) → P (onFound o x k)
-  on-found (At i) x k p q = q i
+  on-found : (o : Found) (x : Checked) (k : ℕ → Checked) → (o ≡ Nothing → P x) → ((i : ℕ) → o ≡ At i → P (k i)) → P (onFound o x k)
+  on-found (At i) x k p q = q i refl
   on-found Nothing x k p q = p refl
 
   -- of a header
@@ -69,11 +70,25 @@ lines-good k f e i h =
     eqb-true (lineFault k (lineAt k f i)) 0
     (not-false (eqb (lineFault k (lineAt k f i)) 0) (find-none (badLine k f) (linesIn k f) e i h))
 
+-- line i is bad where it is found
+pub record BadLine (k : Kind) (f : List ℕ) (i : ℕ) : Type 0 where
+  pub within : i < linesIn k f
+  pub fault : lineFault k (lineAt k f i) ≢ 0
+
+line-bad : (k : Kind) (f : List ℕ) (i : ℕ) → find (badLine k f) (linesIn k f) ≡ At i → BadLine k f i
+unfolding badLine
+line-bad k f i e =
+    let t = find-some (badLine k f) (linesIn k f) i e in
+    record {
+      within = t .0;
+      fault = eqb-false (lineFault k (lineAt k f i)) 0 (not-true (eqb (lineFault k (lineAt k f i)) 0) (t .1));
+    }
+
 -- of what the checks of a file say
 pub checked-by : (P : Checked → Type 0) (k : Kind) (s : Stores) (f : List ℕ) (room : ℕ) (last : Cycle)
     → (registerSound (s .register) ≡ false → P (refuse 1)) → (guideSound (s .guide) ≡ false → P (refuse 2))
     → P (refuse 3) → P (refuse 4) → P (refuse 5) → P (refuse 6) → P (refuse 7) → P (refuse 8)
-    → ((place position : ℕ) → P (Refused (record { number = 9; place = place; position = position })))
+    → ((i : ℕ) → BadLine k f i → P (Refused (record { number = 9; place = i + 1; position = lineFault k (lineAt k f i) })))
     → ((h : Header) → GoodFile k s f → P (Good h)) → P (checked k s f room last)
 unfolding checked frameChecked trailerChecked linesChecked
 checked-by P k s f room last p1 p2 p3 p4 p5 p6 p7 p8 p9 p0 =
@@ -87,7 +102,7 @@ checked-by P k s f room last p1 p2 p3 p4 p5 p6 p7 p8 p9 p0 =
     on-test P (isCount n (linesIn k f)) _ _ (λ g.
     on-found P (find (badLine k f) (linesIn k f)) _ _
     (λ o. p0 h (record { register = a; guide = b; long = c; lines = lines-good k f o }))
-    (λ i. p9 (i + 1) (lineFault k (lineAt k f i))))
+    (λ i o. p9 i (line-bad k f i o)))
     (λ e. p8)))
     (λ e. p6)))
     (λ e. p4))
@@ -107,7 +122,7 @@ pub good-file : (k : Kind) (s : Stores) (f : List ℕ) (room : ℕ) (last : Cycl
     → GoodFile k s f
 good-file k s f room last h e =
     subst (IfGood (GoodFile k s f)) e
-    (checked-by (IfGood (GoodFile k s f)) k s f room last (λ x. tt) (λ x. tt) tt tt tt tt tt tt (λ i j. tt) (λ x g. g))
+    (checked-by (IfGood (GoodFile k s f)) k s f room last (λ x. tt) (λ x. tt) tt tt tt tt tt tt (λ i b. tt) (λ x g. g))
 
 -- a file of good length has header, whole lines and trailer
 pub file-long : (k : Kind) (f : List ℕ) → goodFile k f ≡ true → length f ≡ 400 + linesIn k f * lineSize k

@@ -113,7 +113,7 @@ guide-sound G s =
     rw (s .long, o) refl
 
 -- the length alone decides whether it is good
-same-good : (w : ℕ) (s t : List ℕ) → length t ≡ length s → goodLength w s ≡ true → goodLength w t ≡ true
+pub same-good : (w : ℕ) (s t : List ℕ) → length t ≡ length s → goodLength w s ≡ true → goodLength w t ≡ true
 unfolding goodLength
 same-good w s t l e = rw l e
 

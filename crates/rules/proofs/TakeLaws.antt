@@ -7,37 +7,30 @@ use mathlib.Core.Logic.{_≢_}
 use mathlib.Core.Bool.{Bool, true, false, cond}
 use mathlib.Core.List.{List, [], _∷_, _++_}
 use Prim.Native.Nat.{ℕ, zero, suc, _+_, _<_}
+use native.Mathlib.Nat.{not-suc-le-zero}
+use native.Mathlib.Decide.{decLt}
 use native.Mathlib.Omega.{arith}
-use lib.Dec.{leb, eqb}
-use lib.ListN.{length, length-append}
+use lib.Dec.{eqb}
+use lib.ListN.{length, getD, length-append, List·getD-append}
+use lib.Seq.{getD-at}
 use borrow.Author.Tests.{eqb-true, eqb-false, eq-eqb, ne-eqb}
 use Rattle.calendar.specs.declared.Day.{Day}
 use Rattle.layout.specs.declared.frame.Header.{Header}
 use Rattle.layout.specs.declared.counter.Cycle.{Cycle}
-use Rattle.layout.specs.declared.counter.Count.{Count}
-use Rattle.layout.specs.declared.frame.Opened.{Opened}
-use Rattle.layout.specs.declared.frame.Opened.the-variants.{Header as aHeader, Wrong as noHeader}
-use Rattle.layout.specs.declared.frame.Closed.{Closed}
-use Rattle.layout.specs.declared.frame.Closed.the-variants.{Trailer as aTrailer, Wrong as noTrailer}
-use Rattle.layout.specs.Tables.{header, trailer}
-use Rattle.layout.specs.Counters.{givenCycle, isNextOf, isCount}
-use Rattle.layout.specs.Frames.{headerOf, trailerOf, onHeader, onTrailer}
+use Rattle.layout.specs.Counters.{givenCycle}
 use Rattle.rules.specs.declared.Kind.{Kind}
 use Rattle.rules.specs.declared.Kind.the-variants.{Data, Guide}
 use Rattle.rules.specs.declared.Code.{Code}
 use Rattle.rules.specs.declared.Filed.{Filed}
 use Rattle.rules.specs.declared.Filed.the-variants.{Record, NoRecord}
-use Rattle.rules.specs.declared.Found.{Found}
-use Rattle.rules.specs.declared.Found.the-variants.{At, Nothing}
 use Rattle.rules.specs.declared.Refusal.{Refusal}
 use Rattle.rules.specs.declared.Checked.{Checked}
 use Rattle.rules.specs.declared.Checked.the-variants.{Good, Refused}
-use Rattle.rules.specs.Walks.{find, onFound}
-use Rattle.rules.specs.Slots.{registerSound, guideSound}
 use Rattle.rules.specs.Records.{filedOf, answerOf, registerAfter, Step, step, applied}
 use Rattle.rules.specs.Rows.{rowCodeOf, rowAnswerOf, guideAfter, rowApplied}
-use Rattle.rules.specs.Takes.{Stores, lineAt, linesIn, goodFile, headerLine, trailerLine, badLine, linesChecked, trailerChecked, frameChecked, checked, lineApplied, after, answerAt, answersTo, zerosIn, othersIn, refusedFile, appliedFile, taken}
+use Rattle.rules.specs.Takes.{Stores, lineAt, linesIn, checked, lineApplied, after, answerAt, answersTo, zerosIn, othersIn, refusedFile, appliedFile, taken}
 use Rattle.rules.proofs.View.{Took, took, RowTook, row-took}
+use Rattle.rules.proofs.GoodLaws.{checked-by}
 use Rattle.rules.specs.History.{Item, itemOf, historyTo, historyAfter}
 
 pub applied-not : (R G : List ℕ) (h : Header) (r : List ℕ) → applied R G h r .answer ≢ 0 → applied R G h r .register ≡ R
@@ -140,6 +133,21 @@ unfolding answersTo
 answers-length k h f s zero = refl
 answers-length k h f s (suc i) = rw (length-append, answers-length k h f s i) (omega arith)
 
+-- byte i is the answer to line i
+pub answer-is : (k : Kind) (h : Header) (f : List ℕ) (s : Stores) (n i : ℕ) → i < n
+    → getD (answersTo k h f s n) i 0 ≡ answerAt k h f s i
+unfolding answersTo
+answer-is k h f s zero i l = absurd (not-suc-le-zero l)
+answer-is k h f s (suc n) i l = go (answer-is k h f s n i) (decLt i n)
+  where
+    go : (i < n → getD (answersTo k h f s n) i 0 ≡ answerAt k h f s i) → Dec (i < n)
+        → getD (answersTo k h f s n ++ (answerAt k h f s n ∷ [])) i 0 ≡ answerAt k h f s i
+    go ih (yes m) =
+        List·getD-append (answersTo k h f s n) (answerAt k h f s n ∷ []) 0 i (rw (answers-length k h f s n) m) ∙ ih m
+    go ih (no m) =
+        let e : i ≡ n = omega arith in
+        rw e (getD-at (answersTo k h f s n) (answerAt k h f s n) [] 0 n (answers-length k h f s n))
+
 -- each is 0 or not
 pub zeros-others : (l : List ℕ) → zerosIn l + othersIn l ≡ length l
 unfolding zerosIn othersIn
@@ -197,42 +205,11 @@ abbrev Numbered : Checked → Type 0
 Numbered (Good h) = Unit {0}
 Numbered (Refused r) = 0 < r .number
 
--- so is what is made of a test, of a place, of a header and of a trailer, if each case is
-on-test : (b : Bool) (x y : Checked) → Numbered x → Numbered y → Numbered (cond b x y)
-on-test true x y p q = p
-on-test false x y p q = q
-
-on-found : (o : Found) (x : Checked) (k : ℕ → Checked) → Numbered x → ((i : ℕ) → Numbered (k i)) → Numbered (onFound o x k)
-on-found (At i) x k p q = q i
-on-found Nothing x k p q = p
-
-on-header : (o : Opened) (x : Checked) (k : Header → Checked) → Numbered x → ((h : Header) → Numbered (k h)) → Numbered (onHeader o x k)
-on-header (aHeader h) x k p q = q h
-on-header noHeader x k p q = p
-
-on-trailer : (o : Closed) (x : Checked) (k : Count → Checked) → Numbered x → ((c : Count) → Numbered (k c)) → Numbered (onTrailer o x k)
-on-trailer (aTrailer c) x k p q = q c
-on-trailer noTrailer x k p q = p
-
 -- so is what the checks of a file say
 numbered : (k : Kind) (s : Stores) (f : List ℕ) (room : ℕ) (last : Cycle) → Numbered (checked k s f room last)
-unfolding checked frameChecked trailerChecked linesChecked
 numbered k s f room last =
-    on-test (registerSound (s .register)) _ _
-    (on-test (guideSound (s .guide)) _ _
-    (on-test (goodFile k f) _ _
-    (on-test (leb (linesIn k f) room) _ _
-    (on-header (headerOf header (headerLine f)) _ _ (omega arith) (λ h.
-    on-test (isNextOf last (h .cycle)) _ _
-    (on-trailer (trailerOf trailer (headerLine f) (trailerLine f)) _ _ (omega arith) (λ c.
-    on-test (isCount c (linesIn k f)) _ _
-    (on-found (find (badLine k f) (linesIn k f)) _ _ tt (λ i. omega arith))
-    (omega arith)))
-    (omega arith)))
-    (omega arith))
-    (omega arith))
-    (omega arith))
-    (omega arith)
+    checked-by Numbered k s f room last (λ e. omega arith) (λ e. omega arith) (omega arith) (omega arith) (omega arith) (omega arith)
+    (omega arith) (omega arith) (λ i b. omega arith) (λ h g. tt)
 
 -- ---- a file
 

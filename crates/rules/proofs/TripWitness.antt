@@ -5,7 +5,7 @@ use mathlib.Core.List.{List, [], _∷_, _++_}
 use Prim.Native.Nat.{ℕ, _≤_}
 use native.Mathlib.Omega.{arith}
 use lib.ListN.{take, getD, replicate}
-use Rattle.text.specs.Text.{spaces, spelled, runsOf, putAt, width, amongSpaces, leftDigits, rightDigits}
+use Rattle.text.specs.Text.{spelled, runsOf, putAt, width, amongSpaces, leftDigits, rightDigits}
 use Rattle.calendar.specs.Calendar.{dayOf}
 use Rattle.layout.specs.Counters.{cycleOf, wholeCount, countOf}
 use Rattle.layout.specs.Fields.{functionOf, numberOf, houseOf, streetOf, placeOf, esnOf, hasEsn, dateOf, companyOf, rowStreetOf, rowPlaceOf, lowOf, highOf, parityOf, allows, rowEsnOf, rowFunctionOf, withEsn, forLoad}
@@ -23,11 +23,7 @@ use Rattle.rules.specs.Demands.{start, taking, run}
 use Rattle.rules.specs.Circle.{Trip, tripOf}
 use Rattle.rules.proofs.KeepSound.{run-sound}
 use Rattle.rules.proofs.RoundTrip.{run-fit}
-use Rattle.rules.proofs.Witness.{day, files}
-
--- the company name N
-abbrev company : List ℕ
-company = 78 ∷ spaces 49
+use Rattle.rules.proofs.Witness.{day, company, files}
 
 -- the stores that the run leaves
 abbrev stores : Stores

@@ -4,7 +4,7 @@
 -- a test's value, with the equation
 use mathlib.Core.Path.{_≡_, refl, sym, _∙_, subst}
 use mathlib.Core.Logic.{_⊎_, inl, inr, _≢_}
-use mathlib.Core.Bool.{Bool, true, false, not, _&&_, cond, true≢false}
+use mathlib.Core.Bool.{Bool, true, false, not, _&&_, _||_, cond, true≢false}
 use mathlib.Core.List.{List, [], _∷_, _++_}
 use Prim.Native.Nat.{ℕ, zero, suc, _+_, _≤_, _<_}
 use native.Mathlib.Nat.{not-suc-le-zero, lt-irrefl}
@@ -13,6 +13,7 @@ use native.Mathlib.Numerals.{add-one}
 use native.Mathlib.Omega.{arith}
 use lib.Dec.{eqb, ltb}
 use borrow.Author.Tests.{ltb-true, ne-eqb}
+use Rattle.text.specs.Text.{memberOf}
 use Rattle.rules.specs.declared.Found.{Found}
 use Rattle.rules.specs.declared.Found.the-variants.{At, Nothing}
 use Rattle.rules.specs.Walks.{orElse, find, walked, sought, count, first}
@@ -29,6 +30,14 @@ and-both a b p q = cc
 
 pub and-rest : (a b : Bool) → a ≡ true → a && b ≡ false → b ≡ false
 and-rest a b p q = cc
+
+-- one of two suffices
+pub or-left : (a b : Bool) → a ≡ true → a || b ≡ true
+or-left a b e = rw e
+
+pub or-right : (a b : Bool) → b ≡ true → a || b ≡ true
+or-right true b e = refl
+or-right false b e = e
 
 pub not-false : (a : Bool) → not a ≡ false → a ≡ true
 not-false true h = refl
@@ -170,6 +179,21 @@ first-zero (h ∷ t) p e = go (λ f. first-zero t (and-second (ltb 0 (h .1)) (po
     go : (first t ≡ 0 → AllFail t) → (b : Bool) → h .0 ≡ b → cond b (h .1) (first t) ≡ 0 → (h .0 ≡ false) × AllFail t
     go ih true q e = absurd (lt-irrefl 0 (subst (λ (n : ℕ). 0 < n) e (ltb-true 0 (h .1) (and-first (ltb 0 (h .1)) (positive t) p))))
     go ih false q e = (q, ih e)
+
+-- the numbers of a table are all in a list
+unfoldable pub numbersIn : List ℕ → List (Bool × ℕ) → Bool
+numbersIn set [] = true
+numbersIn set (h ∷ t) = memberOf (h .1) set && numbersIn set t
+
+-- so the first hit decides for one of them, or for 0
+pub first-in : (set : List ℕ) (l : List (Bool × ℕ)) → memberOf 0 set ≡ true → numbersIn set l ≡ true → memberOf (first l) set ≡ true
+unfolding first numbersIn
+first-in set [] z e = z
+first-in set (h ∷ t) z e = go (first-in set t z (and-second (memberOf (h .1) set) (numbersIn set t) e)) (h .0)
+  where
+    go : memberOf (first t) set ≡ true → (b : Bool) → memberOf (cond b (h .1) (first t)) set ≡ true
+    go ih true = and-first (memberOf (h .1) set) (numbersIn set t) e
+    go ih false = ih
 
 -- two tables, one after the other
 pub first-append : (a b : List (Bool × ℕ)) → positive a ≡ true → first (a ++ b) ≡ cond (eqb (first a) 0) (first b) (first a)

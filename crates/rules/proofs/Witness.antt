@@ -5,19 +5,21 @@ use mathlib.Core.Path.{_≡_, refl}
 use mathlib.Core.List.{List, [], _∷_, _++_}
 use Prim.Native.Nat.{ℕ}
 use lib.ListN.{length, take, replicate}
-use Rattle.text.specs.Text.{spaces, spelled, runsOf, putAt}
+use Rattle.text.specs.Text.{spaces, spelled, runsOf, putAt, width, amongSpaces, leftDigits, rightDigits}
 use Rattle.calendar.specs.Calendar.{dayOf}
 use Rattle.layout.specs.Counters.{cycleOf, wholeCount, countOf}
-use Rattle.layout.specs.Fields.{functionOf, numberOf, houseOf, streetOf, placeOf, esnOf, hasEsn, dateOf, companyOf, rowStreetOf, rowPlaceOf, lowOf, highOf, parityOf, allows, rowEsnOf, rowFunctionOf, withEsn}
-use Rattle.layout.specs.Frames.{dateOf as frameDateOf, nameOf, headerOf, sameFrame, trailerOf}
+use Rattle.layout.specs.Fields.{functionOf, numberOf, houseOf, streetOf, placeOf, esnOf, hasEsn, dateOf, companyOf, rowStreetOf, rowPlaceOf, lowOf, highOf, parityOf, allows, rowEsnOf, rowFunctionOf, withEsn, forLoad}
+use Rattle.layout.specs.Frames.{dateOf as frameDateOf, nameOf, headerOf, sameFrame, trailerOf, frameWith, headerWith, trailerWith}
 use Rattle.layout.specs.Rules.{isDirection, isDate, isCycle, isTally, keepsFrame, keepsOther, keeps, houseFault, endFault, highFault, parityFault, isWhole, faultBy, faultIn, recordFault, rowFault}
 use Rattle.rules.specs.declared.Kind.the-variants.{Data, Guide}
-use Rattle.rules.specs.Walks.{find, first}
+use Rattle.rules.specs.Walks.{find, walked, count, first}
 use Rattle.rules.specs.Slots.{slotAt, place, withPlace, goodLength, stateOf, slotDay, recordOf, slotOf, isZero, fitsSlot, dayFits, usedSound, slotSound, unsoundSlot, registerSound, isPresent, isVacant, rowOf, rowSlotOf, freeRowSlot, presentSound, rowSlotSound, unsoundRowSlot, guideSound}
 use Rattle.rules.specs.Covers.{hits, covers, sameStreet, meetFrom, meets, clash, sameRow}
 use Rattle.rules.specs.Records.{filedOf, hasNumber, findNumber, isOver, findRow, freeAt, isReusable, reusableAt, findFree, findReusable, findSpare, answerOf, shown, registerAfter, step, applied}
 use Rattle.rules.specs.Rows.{rowCodeOf, clashAt, findClash, vacantAt, findVacant, sameAt, findSame, entryUnder, findEntry, rowApplied}
-use Rattle.rules.specs.Takes.{linesIn, goodFile, headerLine, trailerLine, lineAt, badLine, linesChecked, trailerChecked, frameChecked, checked, lineApplied, after, answerAt, answersTo, zerosIn, othersIn, refusedFile, appliedFile, taken}
+use Rattle.rules.specs.Takes.{linesIn, goodFile, headerLine, trailerLine, lineAt, badLine, linesChecked, trailerChecked, frameChecked, checked, lineApplied, after, answerAt, answersTo, zerosIn, othersIn, Outcome, refusedFile, appliedFile, taken}
+use Rattle.rules.specs.Lookups.{isNumber, seenIn, seen as lookup, packed}
+use Rattle.rules.specs.Loads.{entryAt, entriesIn, linesTo, headerFor, trailerFor, loadFile, loadSize, loadHeader, laterAt, headerRefusal, loadRefusal, Load, loaded}
 use Rattle.rules.specs.History.{historyTo, historyAfter}
 use Rattle.rules.specs.Demands.{File, start, taking, run}
 
@@ -37,6 +39,10 @@ abbrev rowLine : List ℕ
 rowLine =
     spaces 2 ++ (65 ∷ (spaces 65 ++ (49 ∷ (spaces 9 ++ (57 ∷ (spaces 9 ++ (67 ∷ (spaces 31 ++ (84 ∷ 88 ∷ 66 ∷ 56 ∷ 51 ∷
     (spaces 73 ++ (73 ∷ 42 ∷ [])))))))))))
+
+-- a company name
+abbrev pub company : List ℕ
+company = 78 ∷ spaces 49
 
 -- a record of number 1111111111 at 1 A, C, TX, with a blank ESN, of the company whose letter is x
 abbrev line : ℕ → ℕ → List ℕ
@@ -59,18 +65,63 @@ files =
     ∷ record { kind = Data; bytes = dataFile; answers = 1 ∷ 1 ∷ 1 ∷ 1 ∷ []; last = 0 }
     ∷ []
 
--- the answers to the data file after the guide file; and after both files, how many lines the history has, the state of the slot,
--- and the ESN and the first letter of the Company ID that it shows
-pub seen : List ℕ
-unfolding spelled runsOf putAt dayOf cycleOf wholeCount countOf functionOf numberOf houseOf streetOf placeOf esnOf hasEsn dateOf companyOf rowStreetOf rowPlaceOf lowOf highOf parityOf allows rowEsnOf rowFunctionOf withEsn frameDateOf nameOf headerOf sameFrame trailerOf isDirection isDate isCycle isTally keepsFrame keepsOther keeps houseFault endFault highFault parityFault isWhole faultBy faultIn recordFault rowFault find first place withPlace goodLength stateOf slotDay recordOf slotOf isZero fitsSlot dayFits usedSound slotSound unsoundSlot registerSound isPresent isVacant rowOf rowSlotOf freeRowSlot presentSound rowSlotSound unsoundRowSlot guideSound hits covers sameStreet meetFrom meets clash sameRow filedOf hasNumber findNumber isOver findRow freeAt isReusable reusableAt findFree findReusable findSpare answerOf shown registerAfter step applied rowCodeOf clashAt findClash vacantAt findVacant sameAt findSame entryUnder findEntry rowApplied linesIn goodFile headerLine trailerLine lineAt badLine linesChecked trailerChecked frameChecked checked lineApplied after answerAt answersTo zerosIn othersIn refusedFile appliedFile taken historyTo historyAfter start taking run
+-- a file of one record with a bad code, and one of D of B
+abbrev badFile : List ℕ
+badFile = opening ++ (line 65 65 ++ closing 49)
+
+abbrev deleteFile : List ℕ
+deleteFile = opening ++ (line 68 66 ++ closing 49)
+
+-- a take's numbers
+abbrev returned : Outcome → List ℕ
+returned o =
+    let t = o .result in
+    t .refusal ∷ t .place ∷ t .position ∷ t .records ∷ t .done ∷ t .undone ∷ t .last ∷ []
+
+-- and those of writing a load file
+abbrev written : Load → List ℕ
+written l =
+    let t = l .result in
+    t .refusal ∷ t .bytes ∷ t .entries ∷ []
+
+-- the guide file and the data file, what lookup shows then, the D, the load file before and after it, an empty file and a bad one
+pub seen : List (List ℕ)
+unfolding spelled runsOf putAt dayOf cycleOf wholeCount countOf functionOf numberOf houseOf streetOf placeOf esnOf hasEsn dateOf companyOf rowStreetOf rowPlaceOf lowOf highOf parityOf allows rowEsnOf rowFunctionOf withEsn frameDateOf nameOf headerOf sameFrame trailerOf isDirection isDate isCycle isTally keepsFrame keepsOther keeps houseFault endFault highFault parityFault isWhole faultBy faultIn recordFault rowFault find first place withPlace goodLength stateOf slotDay recordOf slotOf isZero fitsSlot dayFits usedSound slotSound unsoundSlot registerSound isPresent isVacant rowOf rowSlotOf freeRowSlot presentSound rowSlotSound unsoundRowSlot guideSound hits covers sameStreet meetFrom meets clash sameRow filedOf hasNumber findNumber isOver findRow freeAt isReusable reusableAt findFree findReusable findSpare answerOf shown registerAfter step applied rowCodeOf clashAt findClash vacantAt findVacant sameAt findSame entryUnder findEntry rowApplied linesIn goodFile headerLine trailerLine lineAt badLine linesChecked trailerChecked frameChecked checked lineApplied after answerAt answersTo zerosIn othersIn refusedFile appliedFile taken historyTo historyAfter start taking run walked count isNumber seenIn lookup packed forLoad width amongSpaces leftDigits rightDigits frameWith headerWith trailerWith entryAt entriesIn linesTo headerFor trailerFor loadFile loadSize loadHeader laterAt headerRefusal loadRefusal loaded
 seen =
     let o = run (record { kind = Guide; bytes = guideFile; answers = 1 ∷ []; last = 0 } ∷ []) (start 1 1) in
+    let t = taken Data (o .stores) dataFile (1 ∷ 1 ∷ 1 ∷ 1 ∷ []) 0 in
     let e = run files (start 1 1) in
-    let s = slotAt (e .stores .register) 0 in
-    taken Data (o .stores) dataFile (1 ∷ 1 ∷ 1 ∷ 1 ∷ []) 0 .answers
-    ++ (length (e .history) ∷ stateOf s ∷ (esnOf (recordOf s) ++ take 1 (companyOf (recordOf s))))
+    let R = e .stores .register in
+    let s = slotAt R 0 in
+    let l = lookup R (replicate 10 49) in
+    let d = taken Data (e .stores) deleteFile (1 ∷ []) 0 in
+    t .answers
+    ∷ returned t
+    ∷ (length (e .history) ∷ [])
+    ∷ (stateOf s ∷ (esnOf (recordOf s) ++ take 1 (companyOf (recordOf s))))
+    ∷ (l .refusal ∷ l .state ∷ l .slot ∷ l .looked ∷ packed l ∷ [])
+    ∷ (lookup R [] .refusal ∷ [])
+    ∷ returned d
+    ∷ written (loaded R day company 1 (spaces 912))
+    ∷ written (loaded (d .stores .register) day company 1 (spaces 912))
+    ∷ written (loaded R day company 1 (spaces 911))
+    ∷ returned (taken Data (e .stores) [] [] 1)
+    ∷ returned (taken Data (e .stores) badFile (1 ∷ []) 0)
+    ∷ []
 
--- I, U and M are taken, the late C is answered 16; the row and three records are accepted, the number is held by B under ESN 83
-pub witness : seen ≡ 0 ∷ 0 ∷ 0 ∷ 16 ∷ 4 ∷ 1 ∷ 56 ∷ 51 ∷ 32 ∷ 32 ∷ 32 ∷ 66 ∷ []
+pub witness : seen
+    ≡ (0 ∷ 0 ∷ 0 ∷ 16 ∷ [])  -- I, U and M are taken, the late C is answered 16
+    ∷ (0 ∷ 0 ∷ 0 ∷ 4 ∷ 3 ∷ 1 ∷ 1 ∷ [])  -- 4 records, 3 done and 1 not, last cycle 1
+    ∷ (4 ∷ [])  -- the history has the row and three records
+    ∷ (1 ∷ 56 ∷ 51 ∷ 32 ∷ 32 ∷ 32 ∷ 66 ∷ [])  -- the number is held by B under ESN 83
+    ∷ (0 ∷ 1 ∷ 0 ∷ 1 ∷ 4294967297 ∷ [])  -- lookup shows it held in slot 0, after 1 slot looked at
+    ∷ (10 ∷ [])  -- lookup of no number
+    ∷ (0 ∷ 0 ∷ 0 ∷ 1 ∷ 1 ∷ 0 ∷ 1 ∷ [])  -- the D is taken
+    ∷ (0 ∷ 912 ∷ 1 ∷ [])  -- the load file has one entry,
+    ∷ (0 ∷ 400 ∷ 0 ∷ [])  -- none after the D,
+    ∷ (25 ∷ 0 ∷ 0 ∷ [])  -- and is refused where it does not fit
+    ∷ (3 ∷ 0 ∷ 0 ∷ 0 ∷ 0 ∷ 0 ∷ 1 ∷ [])  -- the empty file is refused by 3, the last cycle stays
+    ∷ (9 ∷ 1 ∷ 1 ∷ 0 ∷ 0 ∷ 0 ∷ 0 ∷ [])  -- the bad one by 9 at its first record and byte
+    ∷ []
 unfolding seen
 witness = refl
