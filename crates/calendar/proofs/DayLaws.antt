@@ -1,6 +1,5 @@
 -- The formula and the table of month lengths agree in every month of the years 00 to 99; a month has at most 31 days; the
 -- four bytes of a day read back as that day. Assumes nothing.
--- a test holds at every number below n
 use mathlib.Core.Path.{_≡_, refl, _∙_, sym, ap}
 use mathlib.Core.List.{List, [], _∷_}
 use mathlib.Core.Bool.{Bool, true, false, _&&_}
@@ -13,6 +12,7 @@ use borrow.Author.Tests.{eqb-true, eqb-false, leb-true, leb-false, le-leb, lt-le
 use Rattle.text.proofs.Laws.{and-left, and-right}
 use Rattle.calendar.specs.Calendar.{dayNumber, monthDays, months, storedDay}
 
+-- a test holds at every number below n
 abbrev pub every : (ℕ → Bool) → ℕ → Bool
 every p zero = true
 every p (suc n) = p n && every p n

@@ -1,7 +1,5 @@
 -- Two rows clash exactly if some house number of one street in one place is covered by both.
 -- Assumes nothing.
--- ---- numbers in two ranges
--- a parity allows all numbers that are odd or even alike
 use mathlib.Core.Path.{_≡_, refl, sym, _∙_}
 use mathlib.Core.Logic.{_⊎_, inl, inr}
 use mathlib.Core.Bool.{Bool, true, false, _&&_, _||_}
@@ -19,6 +17,9 @@ use Rattle.layout.specs.Fields.{houseOf, streetOf, placeOf, rowStreetOf, rowPla
 use Rattle.rules.specs.Covers.{hits, over, covers, sameStreet, bothAllow, meetFrom, meets, clash}
 use Rattle.rules.proofs.WalkLaws.{decided, clash-bool, or-left, or-right}
 
+-- ---- numbers in two ranges
+
+-- a parity allows all numbers that are odd or even alike
 allows-alike : (p m n : ℕ) → m % 2 ≡ n % 2 → allows p m ≡ allows p n
 unfolding allows
 allows-alike p m n e = rw e

@@ -1,6 +1,5 @@
 -- A record whose blank ESN is filled in from a row: its ESN is the row's, and its other fields are as they were.
 -- Assumes nothing.
--- where the table of fields has the ESN
 use mathlib.Core.Path.{_≡_, refl, sym, ap, _∙_}
 use mathlib.Core.Bool.{Bool, true, false, _||_, not, cond}
 use mathlib.Core.List.{List, _++_}
@@ -19,6 +18,7 @@ use Rattle.rules.specs.Records.{shown, filedOf}
 use Rattle.rules.proofs.PlaceLaws.{part-length, mid-length, mid-same, mid-before, mid-after}
 use Rattle.rules.proofs.SlotLaws.{Whole, WholeRow, put-is}
 
+-- where the table of fields has the ESN
 abbrev pub esnAt : ℕ
 esnAt = startOf dataRecord esn
 

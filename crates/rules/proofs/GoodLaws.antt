@@ -1,6 +1,5 @@
 -- A file that passes the checks: the stores are sound, each of its lines has its length and keeps the field rules.
 -- Assumes nothing.
--- what is known of a file that passes
 use mathlib.Core.Path.{_≡_, refl, subst}
 use mathlib.Core.Logic.{_≢_}
 use mathlib.Core.Bool.{Bool, true, false, _&&_, cond}
@@ -33,6 +32,7 @@ use Rattle.rules.specs.Takes.{Stores, lineSize, lineFault, linesIn, good
 use Rattle.rules.proofs.WalkLaws.{find-some, find-none, not-false, not-true}
 use Rattle.rules.proofs.PlaceLaws.{part-length}
 
+-- what is known of a file that passes
 pub record GoodFile (k : Kind) (s : Stores) (f : List ℕ) : Type 0 where
   pub register : registerSound (s .register) ≡ true
   pub guide : guideSound (s .guide) ≡ true

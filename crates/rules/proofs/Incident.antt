@@ -1,6 +1,5 @@
 -- Last spring's incident: a change, delete or unlock of a company that does not hold the number is turned away, on any register.
 -- Assumes nothing.
--- the answers that turn a record away
 use mathlib.Core.Path.{_≡_, refl, sym, ap, _∙_}
 use mathlib.Core.Bool.{Bool, true, false, not, _&&_, _||_, cond}
 use mathlib.Core.Option.{some, Option·some-ne-none, Option·some-injective}
@@ -33,6 +32,7 @@ use Rattle.rules.proofs.KeepHistory.{stateLeft, code-is, last-same, las
 use Rattle.rules.proofs.Passing.{held-is}
 use Rattle.rules.proofs.Keep.{kept}
 
+-- the answers that turn a record away
 abbrev away : List ℕ
 away = 11 ∷ 13 ∷ 15 ∷ 16 ∷ []
 

@@ -1,7 +1,5 @@
 -- The third demand: what every accepted line keeps, over a file, over a run of files from empty stores; and the demand from it.
 -- Assumes nothing.
--- ---- what is kept
--- of the stores, of the history, and of both
 use mathlib.Core.Path.{_≡_, refl, sym, ap, _∙_}
 use mathlib.Core.Bool.{Bool, true, false}
 use mathlib.Core.Option.{Option}
@@ -39,6 +37,9 @@ use Rattle.rules.proofs.GoodLaws.{good-file, line-long}
 use Rattle.rules.proofs.KeepStores.{used-live, live-held, live-open, AllUnder, same-length, keep-one, keep-under, same-guide-length, keep-row, keep-under-row}
 use Rattle.rules.proofs.KeepHistory.{stateLeft, filledWith, AllTold, AllState, AllKept, Lawful, keep-told, keep-state, keep-kept, keep-lawful, keep-counted, told-row, state-row, kept-row, lawful-row, counted-row}
 
+-- ---- what is kept
+
+-- of the stores, of the history, and of both
 pub record Kept (n m : ℕ) (o : Office) : Type 0 where
   pub sized : Sized n m (o .stores)
   pub one-slot : OneSlot (o .stores .register)

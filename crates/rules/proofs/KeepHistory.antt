@@ -1,7 +1,5 @@
 -- What an accepted record keeps, with the history: what each slot holds is what was last stored, and in the state that the last
 -- accepted record left; each accepted record was allowed by the last one of its number; held plus open. Assumes nothing.
--- ---- codes and states
--- what stores nothing is the holder's own
 use mathlib.Core.Path.{_≡_, refl, sym, ap, _∙_}
 use mathlib.Core.Logic.{_≢_}
 use mathlib.Core.Bool.{Bool, true, false, not, _&&_, cond}
@@ -29,6 +27,9 @@ use Rattle.rules.proofs.EsnLaws.{esn-shown, number-shown, company-shown
 use Rattle.rules.proofs.View.{allowed, Place, own, new, Content, stored, kept, Took}
 use Rattle.rules.proofs.KeepStores.{used-after, live-held, live-open, After, at-it, elsewhere, takes, content-ok, same-slots, after, used-before, other}
 
+-- ---- codes and states
+
+-- what stores nothing is the holder's own
 pub own-of-keeps : (c : Code) → stores c ≡ false → isOwn c ≡ true
 own-of-keeps Insert h = sym h
 own-of-keeps Change h = refl

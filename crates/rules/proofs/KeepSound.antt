@@ -1,11 +1,9 @@
 -- The stores of a run stay sound: no file of it is refused by 1 or 2. Assumes nothing.
--- ---- a store is sound exactly if its length is good and each slot is sound
--- a test that holds nowhere below n finds nothing
 use mathlib.Core.Path.{_≡_, refl, ap, _∙_}
 use mathlib.Core.Logic.{_≢_}
 use mathlib.Core.Bool.{Bool, true, false, not, _&&_, _||_, cond}
 use mathlib.Core.List.{List, [], _∷_}
-use Prim.Native.Nat.{ℕ, zero, suc, _≤_, _<_}
+use Prim.Native.Nat.{ℕ, zero, suc, _/_, _≤_, _<_}
 use native.Mathlib.Decide.{ℕ-discrete}
 use native.Mathlib.Omega.{arith}
 use lib.Dec.{leb, eqb}
@@ -34,7 +32,7 @@ use Rattle.rules.specs.declared.Found.the-variants.{At, Nothing}
 use Rattle.rules.specs.declared.Checked.{Checked}
 use Rattle.rules.specs.declared.Checked.the-variants.{Good, Refused}
 use Rattle.rules.specs.Walks.{find, isNothing}
-use Rattle.rules.specs.Slots.{goodLength, slots, slotAt, stateOf, slotDay, recordOf, slotOf, isFree, isHeld, isUsed, isZero, isEntryCode, fitsSlot, dayFits, usedSound, slotSound, unsoundSlot, registerSound, rowSlots, rowSlotAt, withRowSlot, isPresent, isVacant, rowOf, rowSlotOf, freeRowSlot, presentSound, rowSlotSound, unsoundRowSlot, guideSound}
+use Rattle.rules.specs.Slots.{place, goodLength, slots, slotAt, stateOf, slotDay, recordOf, slotOf, isFree, isHeld, isUsed, isZero, isEntryCode, fitsSlot, dayFits, usedSound, slotSound, unsoundSlot, registerSound, rowSlots, rowSlotAt, withRowSlot, isPresent, isVacant, rowOf, rowSlotOf, freeRowSlot, presentSound, rowSlotSound, unsoundRowSlot, guideSound}
 use Rattle.rules.specs.Records.{codedOf, filedOf, stores, stateAfter, shown, applied}
 use Rattle.rules.specs.Rows.{rowCodeOf, rowApplied}
 use Rattle.rules.specs.Takes.{Stores, lineSize, lineFault, linesIn, lineAt, checked, refusedFile, lineApplied, after, answerAt, appliedFile, taken}
@@ -48,6 +46,9 @@ use Rattle.rules.proofs.GoodLaws.{GoodFile, checked-by, good-file, line
 use Rattle.rules.proofs.KeepStores.{used-after, content-ok, same-length, same-slots, slot-it, slot-else, RowAfter, row-it, row-else, row-after, put-length, put-slots}
 use Rattle.rules.proofs.SoundLaws.{date-fits, fault-shown, esn-filled}
 
+-- ---- a store is sound exactly if its length is good and each slot is sound
+
+-- a test that holds nowhere below n finds nothing
 pub find-nowhere-below : (p : ℕ → Bool) (n : ℕ) → ((i : ℕ) → i < n → p i ≡ false) → find p n ≡ Nothing
 find-nowhere-below p n f = go (find p n) refl
   where
@@ -60,57 +61,53 @@ is-nothing : (o : Found) → isNothing o ≡ true → o ≡ Nothing
 is-nothing Nothing e = refl
 is-nothing (At i) e = clash-bool e refl
 
--- a register, slot by slot
-pub record SlotsSound (R : List ℕ) : Type 0 where
-  pub long : goodLength 520 R ≡ true
-  pub each : (i : ℕ) → i < slots R → slotSound (slotAt R i) ≡ true
+-- a store of places of w bytes, place by place: its length is good, and each place passes a test
+pub record AllSound (w : ℕ) (p : List ℕ → Bool) (s : List ℕ) : Type 0 where
+  pub long : goodLength w s ≡ true
+  pub each : (i : ℕ) → i < length s / w → p (place w s i) ≡ true
 
--- it is so if it is sound
+module _ (w : ℕ) (p : List ℕ → Bool) (s : List ℕ) where
+  -- it is so if no place fails
+  all-sound : goodLength w s && isNothing (find (λ i. not (p (place w s i))) (length s / w)) ≡ true → AllSound w p s
+  all-sound e =
+      let l = goodLength w s in
+      let o = find (λ i. not (p (place w s i))) (length s / w) in
+      record {
+        long = and-left l (isNothing o) e;
+        each = λ i h.
+            not-false (p (place w s i))
+            (find-none (λ i. not (p (place w s i))) (length s / w) (is-nothing o (and-right l (isNothing o) e)) i h);
+      }
+
+  -- and no place fails if it is so
+  none-fails : AllSound w p s → goodLength w s && isNothing (find (λ i. not (p (place w s i))) (length s / w)) ≡ true
+  none-fails a =
+      let o : find (λ i. not (p (place w s i))) (length s / w) ≡ Nothing =
+      find-nowhere-below (λ i. not (p (place w s i))) (length s / w) (λ i h. rw (a .each i h)) in
+      rw (a .long, o) refl
+
+-- a register, and a guide, slot by slot
+abbrev pub SlotsSound : List ℕ → Type 0
+SlotsSound R = AllSound 520 slotSound R
+
+abbrev RowsSound : List ℕ → Type 0
+RowsSound G = AllSound 208 rowSlotSound G
+
 pub slots-sound : (R : List ℕ) → registerSound R ≡ true → SlotsSound R
 unfolding registerSound unsoundSlot
-slots-sound R e =
-    let l = goodLength 520 R in
-    let o = find (unsoundSlot R) (slots R) in
-    record {
-      long = and-left l (isNothing o) e;
-      each = λ i h.
-          not-false (slotSound (slotAt R i))
-          (find-none (unsoundSlot R) (slots R) (is-nothing o (and-right l (isNothing o) e)) i h);
-    }
+slots-sound R e = all-sound 520 slotSound R e
 
--- and sound if it is so
 register-sound : (R : List ℕ) → SlotsSound R → registerSound R ≡ true
 unfolding registerSound unsoundSlot
-register-sound R s =
-    let o : find (unsoundSlot R) (slots R) ≡ Nothing =
-    find-nowhere-below (unsoundSlot R) (slots R) (λ i h. rw (s .each i h)) in
-    rw (s .long, o) refl
+register-sound R s = none-fails 520 slotSound R s
 
--- a guide, slot by slot
-record RowsSound (G : List ℕ) : Type 0 where
-  long : goodLength 208 G ≡ true
-  each : (k : ℕ) → k < rowSlots G → rowSlotSound (rowSlotAt G k) ≡ true
-
--- it is so if it is sound
 rows-sound : (G : List ℕ) → guideSound G ≡ true → RowsSound G
 unfolding guideSound unsoundRowSlot
-rows-sound G e =
-    let l = goodLength 208 G in
-    let o = find (unsoundRowSlot G) (rowSlots G) in
-    record {
-      long = and-left l (isNothing o) e;
-      each = λ i h.
-          not-false (rowSlotSound (rowSlotAt G i))
-          (find-none (unsoundRowSlot G) (rowSlots G) (is-nothing o (and-right l (isNothing o) e)) i h);
-    }
+rows-sound G e = all-sound 208 rowSlotSound G e
 
--- and sound if it is so
 guide-sound : (G : List ℕ) → RowsSound G → guideSound G ≡ true
 unfolding guideSound unsoundRowSlot
-guide-sound G s =
-    let o : find (unsoundRowSlot G) (rowSlots G) ≡ Nothing =
-    find-nowhere-below (unsoundRowSlot G) (rowSlots G) (λ i h. rw (s .each i h)) in
-    rw (s .long, o) refl
+guide-sound G s = none-fails 208 rowSlotSound G s
 
 -- the length alone decides whether it is good
 pub same-good : (w : ℕ) (s t : List ℕ) → length t ≡ length s → goodLength w s ≡ true → goodLength w t ≡ true

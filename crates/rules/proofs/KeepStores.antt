@@ -1,7 +1,5 @@
 -- What an accepted record or row keeps, of the stores alone: their lengths, one slot for a number, one row for a house number on a
 -- street, each entry under a row whose ESN it shows. Assumes nothing.
--- ---- codes and states
--- each code leaves a used slot
 use mathlib.Core.Path.{_≡_, refl, sym, ap, _∙_}
 use mathlib.Core.Logic.{_≢_}
 use mathlib.Core.Bool.{Bool, true, false, _||_}
@@ -29,6 +27,9 @@ use Rattle.rules.proofs.EsnLaws.{whole-shown, esn-shown, number-shown, 
 use Rattle.rules.proofs.ClashLaws.{clash-no}
 use Rattle.rules.proofs.View.{allowed, Place, own, new, Content, stored, kept, Took, RowTook, added, removed}
 
+-- ---- codes and states
+
+-- each code leaves a used slot
 pub used-after : (c : Code) → isUsed (stateAfter c) ≡ true
 used-after Insert = refl
 used-after Change = refl

@@ -1,7 +1,5 @@
 -- What a history says, if each record in it was allowed by the last of its number before it: which state a number is in, and that
 -- it passes between companies only by U and M, or by D and I. Assumes nothing.
--- ---- the state that the last record left
--- held exactly if it was I, C or M
 use mathlib.Core.Path.{_≡_, refl, sym, ap, _∙_}
 use mathlib.Core.Logic.{_≢_}
 use mathlib.Core.Bool.{Bool, true, false, not, _&&_, cond}
@@ -24,32 +22,40 @@ use Rattle.rules.proofs.WalkLaws.{clash-bool}
 use Rattle.rules.proofs.View.{allowed}
 use Rattle.rules.proofs.KeepHistory.{own-of-keeps, stateBy, stateLeft, code-is, stored-other, stored-keeps, ByHolder, Allowed, Lawful}
 
-pub held-is : (o : Option (List ℕ)) → isHeld (stateLeft o) ≡ isThere stores o
+-- ---- the state that the last record left
+
+-- a test of the state that is one of the code
+left-by : (p : ℕ → Bool) (q : Code → Bool) → ((c : Code) → p (stateAfter c) ≡ q c) → p 0 ≡ false
+    → (o : Option (List ℕ)) → p (stateLeft o) ≡ isThere q o
 unfolding codeIs
-held-is none = refl
-held-is (some r) = go (filedOf r)
+left-by p q each none-left none = none-left
+left-by p q each none-left (some r) = go (filedOf r)
   where
-    go : (f : Filed) → isHeld (stateBy f) ≡ isCoded stores f
-    go (Record Insert d) = refl
-    go (Record Change d) = refl
-    go (Record Delete d) = refl
-    go (Record Unlock d) = refl
-    go (Record Migrate d) = refl
-    go NoRecord = refl
+    go : (f : Filed) → p (stateBy f) ≡ isCoded q f
+    go (Record c d) = each c
+    go NoRecord = none-left
+
+-- held exactly if it was I, C or M
+pub held-is : (o : Option (List ℕ)) → isHeld (stateLeft o) ≡ isThere stores o
+held-is o = left-by isHeld stores each refl o
+  where
+    each : (c : Code) → isHeld (stateAfter c) ≡ stores c
+    each Insert = refl
+    each Change = refl
+    each Delete = refl
+    each Unlock = refl
+    each Migrate = refl
 
 -- open exactly if it was U
 pub open-is : (o : Option (List ℕ)) → isOpen (stateLeft o) ≡ isThere isUnlock o
-unfolding codeIs
-open-is none = refl
-open-is (some r) = go (filedOf r)
+open-is o = left-by isOpen isUnlock each refl o
   where
-    go : (f : Filed) → isOpen (stateBy f) ≡ isCoded isUnlock f
-    go (Record Insert d) = refl
-    go (Record Change d) = refl
-    go (Record Delete d) = refl
-    go (Record Unlock d) = refl
-    go (Record Migrate d) = refl
-    go NoRecord = refl
+    each : (c : Code) → isOpen (stateAfter c) ≡ isUnlock c
+    each Insert = refl
+    each Change = refl
+    each Delete = refl
+    each Unlock = refl
+    each Migrate = refl
 
 -- ---- passing
 

@@ -1,6 +1,5 @@
 -- Slots: what is written into one is read back, the other slots stay, and a store of zeros is sound and has nothing in it.
 -- Assumes nothing.
--- a data record has 512 bytes, a guide row 200
 use mathlib.Core.Path.{_≡_, refl, sym, ap, _∙_}
 use mathlib.Core.Logic.{_≢_}
 use mathlib.Core.Bool.{Bool, true, false}
@@ -22,6 +21,7 @@ use Rattle.rules.specs.Slots.{place, goodLength, slots, slotAt, withSlot
 use Rattle.rules.proofs.WalkLaws.{find-some, clash-bool, and-both}
 use Rattle.rules.proofs.PlaceLaws.{part-length, place-same, place-other, place-length}
 
+-- a data record has 512 bytes, a guide row 200
 abbrev pub Whole : List ℕ → Type 0
 Whole r = length r ≡ 512
 

@@ -1,7 +1,5 @@
 -- When what is stored is sound: a record of good form keeps it when its blank ESN is filled in from a row of good form; its date is
 -- a day that a slot can have. Assumes nothing.
--- ---- days
--- a month has at most 31 days
 use mathlib.Core.Path.{_≡_, refl, _∙_}
 use mathlib.Core.Bool.{Bool, true, false, not, _&&_, _||_, cond}
 use mathlib.Core.List.{List, [], _∷_}
@@ -26,6 +24,9 @@ use Rattle.rules.proofs.WalkLaws.{not-true}
 use Rattle.rules.proofs.SlotLaws.{Whole, WholeRow}
 use Rattle.rules.proofs.EsnLaws.{esnAt, esnSize, clearOfEsn, esn-with, part-with, function-with, shown-has, shown-blank, has-shown}
 
+-- ---- days
+
+-- a month has at most 31 days
 month-days : (m y : ℕ) → monthDays m y ≤ 31
 month-days m y = go (eqb m 2 && leap y)
   where

@@ -1,7 +1,5 @@
 -- Taking a file: what is not accepted leaves everything as it is; there is one answer for each line, and the history has the lines
 -- answered 0. Assumes nothing.
--- ---- a record
--- a record whose answer is not 0 leaves the register
 use mathlib.Core.Path.{_≡_, refl, subst, _∙_}
 use mathlib.Core.Logic.{_≢_}
 use mathlib.Core.Bool.{Bool, true, false, cond}
@@ -33,6 +31,9 @@ use Rattle.rules.proofs.View.{Took, took, RowTook, row-took}
 use Rattle.rules.proofs.GoodLaws.{checked-by}
 use Rattle.rules.specs.History.{Item, itemOf, historyTo, historyAfter}
 
+-- ---- a record
+
+-- a record whose answer is not 0 leaves the register
 pub applied-not : (R G : List ℕ) (h : Header) (r : List ℕ) → applied R G h r .answer ≢ 0 → applied R G h r .register ≡ R
 unfolding applied step
 applied-not R G h r n = go (filedOf r) n

@@ -1,7 +1,5 @@
 -- What an accepted record or row did, in a form to reason from: where it went, what stands there now, and why that was allowed.
 -- Assumes nothing.
--- ---- codes and states
--- the codes that a state takes
 use mathlib.Core.Path.{_≡_, refl, _∙_}
 use mathlib.Core.Logic.{_⊎_, inl, inr, _≢_}
 use mathlib.Core.Bool.{Bool, true, false, not, _&&_, _||_, cond}
@@ -29,6 +27,9 @@ use Rattle.rules.specs.Rows.{clashAt, findClash, vacantAt, findVacant, s
 use Rattle.rules.specs.Demands.{usedAt, liveAt, presentAt}
 use Rattle.rules.proofs.WalkLaws.{clash-bool, and-both, and-rest, not-false, find-some, find-none, AllFail, positive, first-zero}
 
+-- ---- codes and states
+
+-- the codes that a state takes
 abbrev pub allowed : Code → ℕ → Bool
 allowed Insert b = not (isLive b)
 allowed Change b = isHeld b

@@ -1,7 +1,5 @@
 -- Laws of the walk, of counts, and of a table whose first hit decides.
 -- Assumes nothing.
--- ---- tests
--- a test's value, with the equation
 use mathlib.Core.Path.{_≡_, refl, sym, _∙_, subst}
 use mathlib.Core.Logic.{_⊎_, inl, inr, _≢_}
 use mathlib.Core.Bool.{Bool, true, false, not, _&&_, _||_, cond, true≢false}
@@ -18,6 +16,9 @@ use Rattle.rules.specs.declared.Found.{Found}
 use Rattle.rules.specs.declared.Found.the-variants.{At, Nothing}
 use Rattle.rules.specs.Walks.{orElse, find, walked, sought, count, first}
 
+-- ---- tests
+
+-- a test's value, with the equation
 pub decided : (b : Bool) → (b ≡ true) ⊎ (b ≡ false)
 decided true = inl refl
 decided false = inr refl

@@ -1,6 +1,5 @@
 -- The demands are not empty: a guide row and four records are taken into one slot of each kind. A number passes from one company to
 -- another by U and M, and a change of the old company is turned away. All is computed. Assumes nothing.
--- 010100
 use mathlib.Core.Path.{_≡_, refl}
 use mathlib.Core.List.{List, [], _∷_, _++_}
 use Prim.Native.Nat.{ℕ}
@@ -23,6 +22,7 @@ use Rattle.rules.specs.Loads.{entryAt, entriesIn, linesTo, headerFor, tr
 use Rattle.rules.specs.History.{historyTo, historyAfter}
 use Rattle.rules.specs.Demands.{File, start, taking, run}
 
+-- 010100
 abbrev pub day : List ℕ
 day = 48 ∷ 49 ∷ 48 ∷ 49 ∷ 48 ∷ 48 ∷ []
 

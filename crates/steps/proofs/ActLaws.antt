@@ -1,6 +1,5 @@
 -- What the code writes is what the rules say, and it writes where they say.
 -- Assumes nothing.
--- an ESN filled in the record's part of a slot W, which comes back as F
 use mathlib.Core.Path.{_≡_, _∙_, refl, sym, ap}
 use mathlib.Core.Bool.{Bool, true, false, _&&_, not, cond}
 use mathlib.Core.List.{List, [], _∷_, _++_, append-nil}
@@ -28,6 +27,7 @@ use Rattle.rules.proofs.WalkLaws.{clash-bool, not-false, find-some, positive, f
 use Rattle.steps.specs.Deciding.{early, under, inSpare, settled, decidedStored, decided}
 use Rattle.steps.specs.declared.data.Decided.{Decided}
 
+-- an ESN filled in the record's part of a slot W, which comes back as F
 pub fill-slot : (b : ℕ) (d : Day) (r e W F : List ℕ) → length r ≡ 512 → W ≡ slotOf b d r → F ≡ withEsn e (take 512 (drop 8 W))
     → take 8 W ++ (F ++ drop 512 (drop 8 W)) ≡ slotOf b d (withEsn e r)
 unfolding slotOf

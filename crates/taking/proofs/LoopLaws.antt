@@ -1,6 +1,5 @@
 -- The turns of the two loops over the lines of a file: the checks, and what is applied.
 -- Assumes nothing.
--- ---- the checks: v is the fault of line i
 use mathlib.Core.Path.{_≡_, _∙_, refl, sym, ap}
 use mathlib.Core.Bool.{Bool, true, false, _&&_, cond}
 use mathlib.Core.List.{List, [], _∷_, _++_, append-assoc}
@@ -20,6 +19,8 @@ use Rattle.text.proofs.Laws.{and-right}
 use Rattle.layout.specs.declared.counter.Cycle.{Cycle}
 use Rattle.rules.specs.Slots.{registerSound, guideSound}
 use Rattle.rules.proofs.TakeLaws.{answers-length, zeros-more, zeros-others}
+
+-- ---- the checks: v is the fault of line i
 
 module _ (k : Kind) (f : List ℕ) (n i v : ℕ) (e : v ≡ lineFault k (lineAt k f i)) where
   pub bad-not : v ≡ 0 → badLine k f i ≡ false

@@ -1,7 +1,6 @@
 -- The two laws of every loop that walks a list from the front: its invariant is that a definition f says of what is left at i what
 -- is asked, `f (drop i s) ≡ v`, as `f s`. Where a byte is left, f says it of that byte and the rest; where none is left, f says it of [].
 -- Assumes nothing.
--- both tests, of the two
 use mathlib.Core.Path.{_≡_, _∙_, refl, sym, ap}
 use mathlib.Core.Bool.{Bool, true, false, _&&_, cond, and-assoc}
 use mathlib.Core.List.{List, [], _∷_, _++_, append-nil, append-assoc}
@@ -16,6 +15,7 @@ use borrow.Author.Tests.{eqb-true, eq-eqb, ne-eqb, le-leb, lt-leb, lt-ltb, le-lt
 use Rattle.text.specs.Text.{inClass, runOf, digitOf, valueFrom, sameBytes, part, putAt, spaces, digits, widthIn, amongSpaces}
 use Rattle.text.specs.declared.Class.{Class}
 
+-- both tests, of the two
 pub and-left : (a b : Bool) → (a && b) ≡ true → a ≡ true
 and-left true b h = refl
 and-left false b h = h

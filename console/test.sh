@@ -1,0 +1,267 @@
+#!/usr/bin/env bash
+# Builds the console and the circle against the static libraries and runs them, a line a check.
+#
+#   console/test.sh [FOLDER]    FOLDER has liblookup.a and libboundary.a; it may also be named by HAKKIYOLU_LIBS.
+#                               Otherwise it is target/staticlib under the repository's root.
+#
+# The last line is 'N passed, 0 failed'; the exit status is 1 if a check failed.
+set -u
+
+root=$(cd "$(dirname "${BASH_SOURCE[0]}")/.." && pwd) || exit 1
+libs=${1:-${HAKKIYOLU_LIBS:-$root/target/staticlib}}
+passed=0
+failed=0
+
+ok() {
+    echo "ok $1"
+    passed=$((passed + 1))
+}
+
+# A failed check, and behind it, indented, what is known of it.
+fail() {
+    echo "FAILED $1"
+    if [ -n "${2:-}" ]; then
+        sed 's/^/    /' <<<"$2"
+    fi
+    failed=$((failed + 1))
+}
+
+finish() {
+    echo "$passed passed, $failed failed"
+    [ "$failed" -eq 0 ]
+    exit
+}
+
+for name in lookup boundary; do
+    if [ ! -f "$libs/lib$name.a" ]; then
+        fail "lib$name.a is in $libs" "write it with: rt staticlib $name"
+    fi
+done
+if [ "$failed" -ne 0 ]; then
+    finish
+fi
+libs=$(cd "$libs" && pwd) || exit 1
+lookup=$libs/liblookup.a
+boundary=$libs/libboundary.a
+
+# Everything is built and run in a folder of its own, under short names, so that messages can be compared whole.
+work=$(mktemp -d) || exit 1
+trap 'rm -rf "$work"' EXIT
+cd "$work" || exit 1
+
+warnings=(-Wall -Wextra -Wpedantic -Wconversion -Werror "-I$root/include")
+sanitizers=(-O1 -g "-fsanitize=address,undefined" -fno-sanitize-recover=all)
+
+# A check that a command succeeds without a word.
+quiet() {
+    local name=$1 said
+    shift
+    if said=$("$@" 2>&1) && [ -z "$said" ]; then
+        ok "$name"
+    else
+        fail "$name" "$said"
+    fi
+}
+
+# A check of a command's exit status, standard output and standard error. Under valgrind its own words go to a file.
+runs() {
+    local name=$1 status=$2 out=$3 err=$4 got
+    shift 4
+    : >valgrind.log
+    "$@" >got.out 2>got.err
+    got=$?
+    if [ "$got" -eq "$status" ] && [ "$(cat got.out)" = "$out" ] && [ "$(cat got.err)" = "$err" ]; then
+        ok "$name"
+    else
+        fail "$name" "exit status $got, not $status
+$(diff <(printf '%s\n' "$out") got.out)
+$(diff <(printf '%s\n' "$err") got.err)
+$(cat valgrind.log)"
+    fi
+}
+
+# ---- The header alone --------------------------------------------------------------------------------------------
+
+# Included twice, for the guard. Every call once with nothing lent: NULL with length 0 is allowed, and refused by 1.
+cat >face.c <<'END'
+#include "hakkiyolu.h"
+#include "hakkiyolu.h"
+
+int main(void)
+{
+    const uint64_t seen = hakkiyolu_lookup(NULL, 0, NULL, 0);
+    const struct hakkiyolu_taken data = hakkiyolu_take_data(NULL, 0, NULL, 0, NULL, 0, NULL, 0, 7);
+    const struct hakkiyolu_taken guide = hakkiyolu_take_guide(NULL, 0, NULL, 0, NULL, 0, NULL, 0, 8);
+    const struct hakkiyolu_loaded loaded = hakkiyolu_write_load(NULL, 0, NULL, 0, NULL, 0, 1, NULL, 0);
+    const int refused = hakkiyolu_seen_refusal(seen) == HAKKIYOLU_REFUSED_REGISTER
+        && data.refusal == HAKKIYOLU_REFUSED_REGISTER && guide.refusal == HAKKIYOLU_REFUSED_REGISTER
+        && loaded.refusal == HAKKIYOLU_REFUSED_REGISTER;
+    const int rest = hakkiyolu_seen_looked(seen) == 0 && hakkiyolu_seen_slot(seen) == 0
+        && hakkiyolu_seen_state(seen) == HAKKIYOLU_STATE_ABSENT && data.last == 7 && guide.last == 8
+        && data.records == 0 && guide.records == 0 && loaded.bytes == 0 && loaded.entries == 0;
+    return refused && rest ? 0 : 1;
+}
+END
+cp face.c face.cpp
+echo '#include "hakkiyolu.h"' >alone.c
+cp alone.c alone.cpp
+
+c_compilers=(gcc)
+cpp_compilers=(g++)
+if command -v clang >/dev/null; then c_compilers+=(clang); fi
+if command -v clang++ >/dev/null; then cpp_compilers+=(clang++); fi
+
+for compiler in "${c_compilers[@]}"; do
+    quiet "header alone, C11, $compiler" "$compiler" -std=c11 "${warnings[@]}" -c alone.c -o alone.o
+    quiet "every call links, C11, $compiler" "$compiler" -std=c11 "${warnings[@]}" face.c "$lookup" "$boundary" -o face
+    runs "nothing lent is refused, C11, $compiler" 0 "" "" ./face
+done
+for compiler in "${cpp_compilers[@]}"; do
+    quiet "header alone, C++17, $compiler" "$compiler" -std=c++17 "${warnings[@]}" -c alone.cpp -o alone.o
+    quiet "every call links, C++17, $compiler" "$compiler" -std=c++17 "${warnings[@]}" face.cpp "$lookup" "$boundary" \
+        -o face
+    runs "nothing lent is refused, C++17, $compiler" 0 "" "" ./face
+done
+quiet "libraries link in the other order" gcc -std=c11 "${warnings[@]}" face.c "$boundary" "$lookup" -o face
+runs "nothing lent is refused, other order" 0 "" "" ./face
+
+# ---- The two programs --------------------------------------------------------------------------------------------
+
+# builds NAME COMPILER OPTION...: writes console.NAME and circle.NAME
+builds() {
+    local name=$1 compiler=$2
+    shift 2
+    quiet "console builds, $name" "$compiler" -std=c11 "$@" "${warnings[@]}" "$root/console/console.c" "$lookup" \
+        -o "console.$name"
+    quiet "circle builds, $name" "$compiler" -std=c11 "$@" "${warnings[@]}" "$root/console/circle.c" "$boundary" \
+        "$lookup" -o "circle.$name"
+}
+
+builds plain gcc -O2
+builds sanitized gcc "${sanitizers[@]}"
+if command -v clang >/dev/null; then builds clang clang -O2; fi
+
+circle_says='guide file of MILL COUNTY, cycle 1: 3 done, 1 not done
+  I 1 to 99 MAIN ST, B, ESN 83: done
+  I 100 to 198 MILL RD, E, ESN 84: done
+  I 101 to 199 MILL RD, O, ESN 85: done
+  I 150 to 150 MILL RD, B, ESN 86: turned away (21), clashes with a present row
+data file of OLDCO TELEPHONE, cycle 1: 7 done, 1 not done
+  I 5035550100 of OLDCO: done
+  I 5035550101 of OLDCO: done
+  I 5035550102 of OLDCO: done
+  I 5035550103 of OLDCO: done
+  I 5035550104 of OLDCO: turned away (18), no guide row covers the address
+  D 5035550102 of OLDCO: done
+  U 5035550100 of OLDCO: done
+  U 5035550103 of OLDCO: done
+data file of NEWCO TELEPHONE, cycle 2: 1 done, 0 not done
+  M 5035550100 of NEWCO: done
+5035550100 shows 109 MILL RD, ESN 85, of NEWCO
+data file of OLDCO TELEPHONE, cycle 3: 0 done, 2 not done
+  C 5035550100 of OLDCO: turned away (16), another company holds the number
+  C 5035550103 of OLDCO: turned away (15), the number is open
+5035550100 shows 109 MILL RD, ESN 85, of NEWCO
+load file written: 3 entries, 1936 bytes
+load file of REGISTER OFFICE, cycle 1: 3 done, 0 not done
+  slot 0, 5035550100: came back to slot 0
+  slot 1, 5035550101: came back to slot 1
+  slot 3, 5035550103: came back to slot 2
+  the other 5 slots: free
+the circle closes'
+
+no_register='refused (1): not 1 to 4096 whole slots of 520 bytes'
+no_number='refused (10): not ten digits'
+no_usage='console: bad usage: give a register and a number (console --help tells more)'
+
+# zeros FILE BYTES: a file of zero bytes; whole slots of them are free slots
+zeros() {
+    head -c "$2" /dev/zero >"$1"
+}
+zeros empty 0
+zeros one_slot 520
+zeros byte_short 519
+zeros byte_over 521
+zeros most_slots $((4096 * 520))
+zeros slot_over $((4097 * 520))
+zeros byte_over_most $((4096 * 520 + 1))
+mkdir folder
+many=({5035551000..5035551999}) # more than a stream buffers
+
+# programs NAME BUILD [BEFORE...]: runs both programs of a build, with BEFORE (valgrind) in front of them
+programs() {
+    local name=$1 build=$2
+    shift 2
+    local console=("$@" "./console.$build") circle=("$@" "./circle.$build")
+
+    runs "circle closes, $name" 0 "$circle_says" "" "${circle[@]}"
+    rm -f register
+    runs "circle writes its register, $name" 0 "$circle_says" "" "${circle[@]}" register
+    runs "circle: a file it can't write, $name" 3 "$circle_says" "folder: Is a directory" "${circle[@]}" folder
+    runs "circle: too many arguments, $name" 2 "" "Usage: circle [REGISTER]" "${circle[@]}" register more
+
+    runs "held, $name" 0 "5035550100: held, slot 0, 1 slot looked at" "" "${console[@]}" register 5035550100
+    runs "resting, $name" 0 "5035550102: resting, slot 2, 3 slots looked at" "" "${console[@]}" register 5035550102
+    runs "open, $name" 0 "5035550103: open, slot 3, 4 slots looked at" "" "${console[@]}" register 5035550103
+    runs "absent, $name" 0 "5035550104: absent, no slot, 8 slots looked at" "" "${console[@]}" register 5035550104
+    runs "several numbers, $name" 0 "5035550104: absent, no slot, 8 slots looked at
+5035550101: held, slot 1, 2 slots looked at
+5035550101: held, slot 1, 2 slots looked at" "" "${console[@]}" register 5035550104 5035550101 5035550101
+
+    runs "1000 numbers, $name" 0 "$(printf '%s: absent, no slot, 8 slots looked at\n' "${many[@]}")" "" \
+        "${console[@]}" register "${many[@]}"
+
+    runs "letters in the number, $name" 1 "" "console: 50355501ab: $no_number" "${console[@]}" register 50355501ab
+    runs "9 digits, $name" 1 "" "console: 503555010: $no_number" "${console[@]}" register 503555010
+    runs "11 digits, $name" 1 "" "console: 50355501000: $no_number" "${console[@]}" register 50355501000
+    runs "no digit, $name" 1 "" "console: : $no_number" "${console[@]}" register ""
+    runs "the others are answered, $name" 1 "5035550100: held, slot 0, 1 slot looked at
+5035550103: open, slot 3, 4 slots looked at" "console: 503-555-01: $no_number" \
+        "${console[@]}" register 5035550100 503-555-01 5035550103
+
+    runs "one free slot, $name" 0 "5035550100: absent, no slot, 1 slot looked at" "" "${console[@]}" one_slot 5035550100
+    runs "4096 slots, $name" 0 "5035550100: absent, no slot, 4096 slots looked at" "" \
+        "${console[@]}" most_slots 5035550100
+    local file
+    for file in empty byte_short byte_over slot_over byte_over_most; do
+        runs "refused register: $file ($(stat -c %s "$file") bytes), $name" 4 "" "console: $file: $no_register" \
+            "${console[@]}" "$file" 5035550100 5035550101
+    done
+    runs "refused register before bad number, $name" 4 "" "console: empty: $no_register" "${console[@]}" empty 12
+
+    runs "missing file, $name" 3 "" "console: missing: No such file or directory" "${console[@]}" missing 5035550100
+    runs "a folder, $name" 3 "" "console: folder: Is a directory" "${console[@]}" folder 5035550100
+    runs "no arguments, $name" 2 "" "$no_usage" "${console[@]}"
+    runs "no number, $name" 2 "" "$no_usage" "${console[@]}" register
+    if [ -c /dev/full ]; then
+        runs "output that can't be written, $name" 5 "" "console: standard output: cannot be written" \
+            full "${console[@]}" register 5035550100
+        runs "much output that can't be written, $name" 5 "" "console: standard output: cannot be written" \
+            full "${console[@]}" register "${many[@]}"
+        runs "circle: output that can't be written, $name" 3 "" "circle: the standard output cannot be written" \
+            full "${circle[@]}"
+    fi
+}
+
+# Runs a command with its standard output on a device that is always full.
+full() {
+    "$@" >/dev/full
+}
+
+programs plain plain
+programs sanitized sanitized
+if [ -x console.clang ]; then programs clang clang; fi
+if command -v valgrind >/dev/null; then
+    programs valgrind plain valgrind -q --error-exitcode=99 --leak-check=full --errors-for-leak-kinds=all \
+        --log-file=valgrind.log
+fi
+
+help=$(./console.plain --help)
+status=$?
+if [ "$status" -eq 0 ] && [[ $help == "Usage: console REGISTER NUMBER..."* ]]; then
+    ok "console --help"
+else
+    fail "console --help" "exit status $status"
+fi
+
+finish

@@ -1,0 +1,84 @@
+use mathlib.Core.Path.{refl, _≡_}
+use Prim.Native.Nat.{_-_, _≤_}
+use native.Mathlib.Omega.{arith}
+use lib.ListN.{drop, length}
+use borrow.Author.Needs.{needs}
+use Rattle.desk_lines.specs.Served.{benchOf}
+use Rattle.desk.specs.Standing.{standing}
+use Rattle.desk.proofs.Stands.{stands-more, stands-all}
+use Rattle.desk.proofs.feed_all.Tie as tie
+use Rattle.desk.proofs.feed_all.Statement.{statement}
+
+abbrev Inv-loop : tie.InvT-loop
+Inv-loop register₀ guide₀ collection₀ line₀ out₀ input marks₀ i₀ register guide collection line out marks i =
+    (i ≤ length input)
+    × ((length register ≡ length register₀)
+    × ((length guide ≡ length guide₀)
+    × ((length collection ≡ length collection₀)
+    × ((length line ≡ length line₀)
+    × ((length out ≡ length out₀)
+    × (standing marks (benchOf register guide collection line out) (drop i input)
+    ≡ standing marks₀ (benchOf register₀ guide₀ collection₀ line₀ out₀) input))))))
+
+abbrev μ-loop : tie.MeasureT-loop
+μ-loop register₀ guide₀ collection₀ line₀ out₀ input marks₀ i₀ register guide collection line out marks i =
+    length input - i
+
+loop-holds : tie.Need-loop-holds Inv-loop μ-loop
+loop-holds c = (search needs, (refl, (refl, (refl, (refl, (refl, refl))))))
+
+shared-slice-read-feed : tie.Need-shared-slice-read-feed Inv-loop μ-loop
+shared-slice-read-feed c = search needs
+
+feed-requires : tie.Need-feed-requires Inv-loop μ-loop
+feed-requires c κs = search needs
+
+write-requires : tie.Need-write-requires Inv-loop μ-loop
+write-requires c κs = search needs
+
+add-i : tie.Need-add-i Inv-loop μ-loop
+add-i c = omega (arith, c .before .before .before .before .before .before .before .before .before .before .before .before .before .before .before .before .before .before .before .before .loop-test .taken, c .before .before .before .before .before .before .before .before .before .before .before .before .before .before .before .before .before .before .before .before .before .before .before .before .before .before .before .before .good)
+
+loop-less : tie.Need-loop-less Inv-loop μ-loop
+loop-less c = search needs
+
+loop-again : tie.Need-loop-again Inv-loop μ-loop
+loop-again c = (search needs, (search needs, (search needs, (search needs, (search needs, (search needs, stands-more (c .before .before .before .before .before .before .before .before .before .before .before .before .before .before .before .before .before .before .before .before .before .loop .marks) (benchOf (c .before .before .before .before .before .before .before .before .before .before .before .before .before .before .before .before .before .before .before .before .before .loop .register) (c .before .before .before .before .before .before .before .before .before .before .before .before .before .before .before .before .before .before .before .before .before .loop .guide) (c .before .before .before .before .before .before .before .before .before .before .before .before .before .before .before .before .before .before .before .before .before .loop .collection) (c .before .before .before .before .before .before .before .before .before .before .before .before .before .before .before .before .before .before .before .before .before .loop .line) (c .before .before .before .before .before .before .before .before .before .before .before .before .before .before .before .before .before .before .before .before .before .loop .out)) (c .before .before .before .before .before .before .before .before .before .before .before .before .before .before .before .before .before .before .before .before .before .before .before .before .before .before .before .before .args .input .now) (c .before .before .before .before .before .before .before .before .before .before .before .before .before .before .before .before .before .before .before .before .before .loop .i) (c .before .before .before .before .before .before .before .before .before .before .before .before .before .before .before .before .before .before .before .before .before .loop .inv .1 .1 .1 .1 .1 .1) (c .before .before .before .before .before .before .before .before .before .before .before .before .before .feed .result) _ (c .before .before .before .before .before .before .before .before .before .before .before .before .before .before .before .before .before .before .before .before .loop-test .taken) (c .before .before .before .before .before .before .before .before .before .before .before .before .before .feed .ensures)))))))
+
+same-length : tie.Need-same-length Inv-loop μ-loop
+same-length c = search needs
+
+same-length-2 : tie.Need-same-length-2 Inv-loop μ-loop
+same-length-2 c = search needs
+
+same-length-3 : tie.Need-same-length-3 Inv-loop μ-loop
+same-length-3 c = search needs
+
+same-length-4 : tie.Need-same-length-4 Inv-loop μ-loop
+same-length-4 c = search needs
+
+same-length-5 : tie.Need-same-length-5 Inv-loop μ-loop
+same-length-5 c = search needs
+
+returns : tie.Need-returns Inv-loop μ-loop
+returns c = stands-all (c .before .loop .marks) (benchOf (c .before .loop .register) (c .before .loop .guide) (c .before .loop .collection) (c .before .loop .line) (c .before .loop .out)) (c .before .before .before .before .before .before .before .before .args .input .now) (c .before .loop .i) (c .before .loop .inv .1 .1 .1 .1 .1 .1) (c .loop-test .left)
+
+pub feed-all-spec : {M : Type 1} → statement M
+feed-all-spec =
+    tie.close
+    (tie.spec
+    Inv-loop
+    μ-loop
+    loop-holds
+    shared-slice-read-feed
+    feed-requires
+    write-requires
+    add-i
+    loop-less
+    loop-again
+    same-length
+    same-length-2
+    same-length-3
+    same-length-4
+    same-length-5
+    returns)

@@ -1,0 +1,12 @@
+use mathlib.Core.Path.{refl}
+use Rattle.desk_lines.specs.Served.{marksOf}
+use Rattle.desk_lines.specs.Desk.{emptyDesk}
+use Rattle.desk_lines.proofs.desk.empty.Tie as tie
+use Rattle.desk_lines.proofs.desk.empty.Statement.{statement}
+
+returns : tie.Need-returns
+unfolding marksOf emptyDesk
+returns c = refl
+
+pub empty-spec : {M : Type 1} → statement M
+empty-spec = tie.close (tie.spec returns)

@@ -1,0 +1,82 @@
+use mathlib.Core.Path.{_≡_, sym, _∙_}
+use Prim.Native.Nat.{_-_}
+use native.Mathlib.Omega.{arith}
+use lib.ListN.{length}
+use denote.Ref.{now}
+use borrow.Author.Needs.{needs}
+use Rattle.desk_lines.proofs.DeskLaws.{room, next-ready, ended-read, ended-not}
+use Rattle.desk_lines.proofs.desk.end_line.Tie as tie
+use Rattle.desk_lines.proofs.desk.end_line.Statement.{statement}
+
+add-t9 : tie.Need-add-t9
+add-t9 c = search needs
+
+sub-is-readable : tie.Need-sub-is-readable
+sub-is-readable c = search needs
+
+part-is-readable-start : tie.Need-part-is-readable-start
+part-is-readable-start c = search needs
+
+part-is-readable-end : tie.Need-part-is-readable-end
+part-is-readable-end c = let r = room (c .before .before .before .before .before .before .args .m) (length (c .before .before .before .before .before .before .args .collection .now)) (length (c .before .before .before .before .before .before .args .line .now)) (length (c .before .before .before .before .before .before .args .out .now)) (c .before .before .before .before .before .before .pre .0) in omega arith
+
+is-readable-requires : tie.Need-is-readable-requires
+is-readable-requires c κs = search needs
+
+sub-read-line : tie.Need-sub-read-line
+sub-read-line c = search needs
+
+part-read-line-start : tie.Need-part-read-line-start
+part-read-line-start c = search needs
+
+part-read-line-end : tie.Need-part-read-line-end
+part-read-line-end c = let r = room (c .before .before .before .before .before .before .before .before .before .before .before .before .before .args .m) (length (c .before .before .before .before .before .before .before .before .before .before .before .before .before .args .collection .now)) (length (c .before .before .before .before .before .before .before .before .before .before .before .before .before .args .line .now)) (length (c .before .before .before .before .before .before .before .before .before .before .before .before .before .args .out .now)) (c .before .before .before .before .before .before .before .before .before .before .before .before .before .pre .0) in omega arith
+
+read-line-requires : tie.Need-read-line-requires
+read-line-requires c κs = let r = room (c .before .before .before .before .before .before .before .before .before .before .before .before .before .before .args .m) (length (c .before .before .before .before .before .before .before .before .before .before .before .before .before .before .args .collection .now)) (length (c .before .before .before .before .before .before .before .before .before .before .before .before .before .before .args .line .now)) (length (c .before .before .before .before .before .before .before .before .before .before .before .before .before .before .args .out .now)) (c .before .before .before .before .before .before .before .before .before .before .before .before .before .before .pre .0) in (sym (c .before .before .before .before .before .before .is-readable .ensures) ∙ c .before .before .before .before .before .if1 .taken, ((r .collected, r .collection), r .out))
+
+same-length : tie.Need-same-length
+same-length c = search needs
+
+same-length-2 : tie.Need-same-length-2
+same-length-2 c = search needs
+
+same-length-3 : tie.Need-same-length-3
+same-length-3 c = search needs
+
+same-length-4 : tie.Need-same-length-4
+same-length-4 c = search needs
+
+returns : tie.Need-returns
+returns c = let e : c .before .before .before .before .before .before .before .before .before .before .before .before .before .before .before .before .before .before .before .before .before .before .before .args .m .typed - 0 ≡ c .before .before .before .before .before .before .before .before .before .before .before .before .before .before .before .before .before .before .before .before .before .before .before .args .m .typed = omega arith in rw (ended-read (c .before .before .before .before .before .before .before .before .before .before .before .before .before .before .before .before .before .before .before .before .before .before .before .args .m) (c .before .before .before .before .before .before .before .before .before .before .before .before .before .before .before .before .before .before .before .before .before .before .before .args .register .now) (c .before .before .before .before .before .before .before .before .before .before .before .before .before .before .before .before .before .before .before .before .before .before .before .args .guide .now) (c .before .before .before .before .before .before .before .before .before .before .before .before .before .before .before .before .before .before .before .before .before .before .before .args .collection .now) (c .before .before .before .before .before .before .before .before .before .before .before .before .before .before .before .before .before .before .before .before .before .before .before .args .line .now) (c .before .before .before .before .before .before .before .before .before .before .before .before .before .before .before .before .before .before .before .before .before .before .before .args .out .now) (rw e at (c .before .before .before .before .before .before .before .before .before .before .before .before .before .before .before .is-readable .ensures)) (c .before .before .before .before .before .before .before .before .before .before .before .before .before .before .if1 .taken)) (rw e at (c .before .before .before .before .before .before .before .before .read-line .ensures (c .before .before .before .before .before .before .before .before .before .before .before .before .before .before .before .before .before .before .before .before .before .before .before .args .line .now) (next-ready (c .before .before .before .before .before .before .before .before .before .before .before .before .before .before .before .before .before .before .before .before .before .before .before .args .m) (length (c .before .before .before .before .before .before .before .before .before .before .before .before .before .before .before .before .before .before .before .before .before .before .before .args .collection .now)) (length (c .before .before .before .before .before .before .before .before .before .before .before .before .before .before .before .before .before .before .before .before .before .before .before .args .line .now)) (length (c .before .before .before .before .before .before .before .before .before .before .before .before .before .before .before .before .before .before .before .before .before .before .before .args .out .now)) (c .before .before .before .before .before .before .before .before .before .before .before .before .before .before .before .before .before .before .before .before .before .before .before .pre .0) (c .before .before .before .before .before .before .before .before .before .before .before .before .before .before .before .before .before .before .before .before .before .before .before .pre .1))))
+
+unread-requires : tie.Need-unread-requires
+unread-requires c κs = let r = room (c .before .before .before .before .before .before .before .before .before .before .args .m) (length (c .before .before .before .before .before .before .before .before .before .before .args .collection .now)) (length (c .before .before .before .before .before .before .before .before .before .before .args .line .now)) (length (c .before .before .before .before .before .before .before .before .before .before .args .out .now)) (c .before .before .before .before .before .before .before .before .before .before .pre .0) in r .out
+
+same-length-5 : tie.Need-same-length-5
+same-length-5 c = search needs
+
+returns-2 : tie.Need-returns-2
+returns-2 c = let e : c .before .before .before .before .before .before .before .before .before .before .before .before .before .args .m .typed - 0 ≡ c .before .before .before .before .before .before .before .before .before .before .before .before .before .args .m .typed = omega arith in rw (ended-not (c .before .before .before .before .before .before .before .before .before .before .before .before .before .args .m) (c .before .before .before .before .before .before .before .before .before .before .before .before .before .args .register .now) (c .before .before .before .before .before .before .before .before .before .before .before .before .before .args .guide .now) (c .before .before .before .before .before .before .before .before .before .before .before .before .before .args .collection .now) (c .before .before .before .before .before .before .before .before .before .before .before .before .before .args .line .now) (c .before .before .before .before .before .before .before .before .before .before .before .before .before .args .out .now) (rw e at (c .before .before .before .before .before .is-readable .ensures)) (c .before .before .before .before .if1 .left)) (c .before .before .unread .ensures (c .before .before .before .before .before .before .before .before .before .before .before .before .before .args .register .now) (c .before .before .before .before .before .before .before .before .before .before .before .before .before .args .guide .now) (c .before .before .before .before .before .before .before .before .before .before .before .before .before .args .collection .now) (c .before .before .before .before .before .before .before .before .before .before .before .before .before .args .line .now) (next-ready (c .before .before .before .before .before .before .before .before .before .before .before .before .before .args .m) (length (c .before .before .before .before .before .before .before .before .before .before .before .before .before .args .collection .now)) (length (c .before .before .before .before .before .before .before .before .before .before .before .before .before .args .line .now)) (length (c .before .before .before .before .before .before .before .before .before .before .before .before .before .args .out .now)) (c .before .before .before .before .before .before .before .before .before .before .before .before .before .pre .0) (c .before .before .before .before .before .before .before .before .before .before .before .before .before .pre .1)))
+
+pub end-line-spec : {M : Type 1} → statement M
+end-line-spec =
+    tie.close
+    (tie.spec
+    add-t9
+    sub-is-readable
+    part-is-readable-start
+    part-is-readable-end
+    is-readable-requires
+    sub-read-line
+    part-read-line-start
+    part-read-line-end
+    read-line-requires
+    same-length
+    same-length-2
+    same-length-3
+    same-length-4
+    returns
+    unread-requires
+    same-length-5
+    returns-2)

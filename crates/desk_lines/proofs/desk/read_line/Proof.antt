@@ -1,0 +1,73 @@
+use mathlib.Core.Path.{ap, _∙_}
+use Prim.Native.Nat.{_/_, _≤_}
+use native.Mathlib.Omega.{arith}
+use lib.ListN.{length-append, length}
+use denote.Ref.{now}
+use borrow.Author.Needs.{needs}
+use Rattle.desk_lines.specs.Hex.{bytesIn}
+use Rattle.desk_lines.proofs.OverLaws.{first-of, behind-first}
+use Rattle.desk_lines.proofs.HexLaws.{readable-two, bytes-length}
+use Rattle.desk_lines.proofs.desk.read_line.Tie as tie
+use Rattle.desk_lines.proofs.desk.read_line.Statement.{statement}
+
+sub-decode : tie.Need-sub-decode
+sub-decode c = search needs
+
+part-bytes-start : tie.Need-part-bytes-start
+part-bytes-start c = search needs
+
+part-bytes-end : tie.Need-part-bytes-end
+part-bytes-end c = let t = readable-two (c .before .before .before .before .before .args .line .now) (c .before .before .before .before .before .pre .0) in omega arith
+
+decode-requires : tie.Need-decode-requires
+decode-requires c κs = search needs
+
+array-read-framed : tie.Need-array-read-framed
+array-read-framed c = search needs
+
+sub-framed : tie.Need-sub-framed
+sub-framed c = let t = readable-two (c .before .before .before .before .before .before .before .before .before .before .before .before .args .line .now) (c .before .before .before .before .before .before .before .before .before .before .before .before .pre .0) in omega arith
+
+part-framed-start : tie.Need-part-framed-start
+part-framed-start c = let t = readable-two (c .before .before .before .before .before .before .before .before .before .before .before .before .before .args .line .now) (c .before .before .before .before .before .before .before .before .before .before .before .before .before .pre .0) in omega arith
+
+part-framed-end : tie.Need-part-framed-end
+part-framed-end c = let n = ap length (c .before .before .before .before .before .before .decode .ensures) ∙ bytes-length (c .before .before .before .before .before .before .before .before .before .before .before .before .before .args .line .now) in simp length-append (omega arith)
+
+framed-requires : tie.Need-framed-requires
+framed-requires c κs = search needs
+
+same-length : tie.Need-same-length
+same-length c = search needs
+
+same-length-2 : tie.Need-same-length-2
+same-length-2 c = search needs
+
+same-length-3 : tie.Need-same-length-3
+same-length-3 c = search needs
+
+same-length-4 : tie.Need-same-length-4
+same-length-4 c = search needs
+
+returns : tie.Need-returns
+returns c = let t = readable-two (c .before .before .before .before .before .before .before .before .before .before .before .before .before .before .before .before .before .before .before .before .before .before .before .args .line .now) (c .before .before .before .before .before .before .before .before .before .before .before .before .before .before .before .before .before .before .before .before .before .before .before .pre .0) in let n = bytes-length (c .before .before .before .before .before .before .before .before .before .before .before .before .before .before .before .before .before .before .before .before .before .before .before .args .line .now) in let k : 1 ≤ length (c .before .before .before .before .before .before .before .before .before .before .before .before .before .before .before .before .before .before .before .before .before .before .before .args .line .now) / 2 = omega arith in
+    λ l ready. rw (c .before .before .before .before .before .before .before .before .before .before .before .before .before .before .before .before .decode .ensures, first-of (bytesIn (c .before .before .before .before .before .before .before .before .before .before .before .before .before .before .before .before .before .before .before .before .before .before .before .args .line .now)) _ (length (c .before .before .before .before .before .before .before .before .before .before .before .before .before .before .before .before .before .before .before .before .before .before .before .args .line .now) / 2) n k, behind-first (bytesIn (c .before .before .before .before .before .before .before .before .before .before .before .before .before .before .before .before .before .before .before .before .before .before .before .args .line .now)) _ (length (c .before .before .before .before .before .before .before .before .before .before .before .before .before .before .before .before .before .before .before .before .before .before .before .args .line .now) / 2) n k) at (c .before .before .before .before .before .before .before .before .framed .ensures l ready)
+
+pub read-line-spec : {M : Type 1} → statement M
+read-line-spec =
+    tie.close
+    (tie.spec
+    sub-decode
+    part-bytes-start
+    part-bytes-end
+    decode-requires
+    array-read-framed
+    sub-framed
+    part-framed-start
+    part-framed-end
+    framed-requires
+    same-length
+    same-length-2
+    same-length-3
+    same-length-4
+    returns)

@@ -1,0 +1,89 @@
+use mathlib.Core.Path.{_≡_, refl, sym}
+use mathlib.Core.List.{_++_}
+use Prim.Native.Nat.{_-_, _≤_}
+use native.Mathlib.Omega.{arith}
+use lib.ListN.{length, take, drop}
+use denote.Ref.{now}
+use borrow.Author.Needs.{needs}
+use Rattle.desk_lines.specs.Hex.{bytesIn}
+use Rattle.desk_lines.proofs.HexLaws.{bytes-length, bytes-at}
+use Rattle.desk_lines.proofs.OverLaws.{front-length, front-more, front-all}
+use Rattle.desk_lines.proofs.hex.decode.Tie as tie
+use Rattle.desk_lines.proofs.hex.decode.Statement.{statement}
+
+abbrev Inv-loop : tie.InvT-loop
+Inv-loop line bytes₀ i₀ bytes i = (i ≤ length bytes₀) × (bytes ≡ take i (bytesIn line) ++ drop i bytes₀)
+
+abbrev μ-loop : tie.MeasureT-loop
+μ-loop line bytes₀ i₀ bytes i = length bytes₀ - i
+
+loop-holds : tie.Need-loop-holds Inv-loop μ-loop
+loop-holds c = (search needs, refl)
+
+mul-a : tie.Need-mul-a Inv-loop μ-loop
+mul-a c = search needs
+
+add-b : tie.Need-add-b Inv-loop μ-loop
+add-b c = search needs
+
+shared-slice-read-value : tie.Need-shared-slice-read-value Inv-loop μ-loop
+shared-slice-read-value c = let l = front-length (bytesIn (c .before .before .before .before .before .args .line .now)) (c .before .before .before .before .before .args .bytes .now) (c .before .before .loop .i) (c .before .before .loop .inv .1) (omega (arith, bytes-length (c .before .before .before .before .before .args .line .now))) (c .before .before .loop .inv .0) in omega arith
+
+value-requires : tie.Need-value-requires Inv-loop μ-loop
+value-requires c κs = search needs
+
+mul-bytes : tie.Need-mul-bytes Inv-loop μ-loop
+mul-bytes c = search needs
+
+shared-slice-read-value-2 : tie.Need-shared-slice-read-value-2 Inv-loop μ-loop
+shared-slice-read-value-2 c = let l = front-length (bytesIn (c .before .before .before .before .before .before .before .args .line .now)) (c .before .before .before .before .before .before .before .args .bytes .now) (c .before .before .before .before .loop .i) (c .before .before .before .before .loop .inv .1) (omega (arith, bytes-length (c .before .before .before .before .before .before .before .args .line .now))) (c .before .before .before .before .loop .inv .0) in omega arith
+
+value-requires-2 : tie.Need-value-requires-2 Inv-loop μ-loop
+value-requires-2 c κs = search needs
+
+add-bytes : tie.Need-add-bytes Inv-loop μ-loop
+add-bytes c = search needs
+
+slice-write-bytes : tie.Need-slice-write-bytes Inv-loop μ-loop
+slice-write-bytes c = search needs
+
+add-i : tie.Need-add-i Inv-loop μ-loop
+add-i c = search needs
+
+loop-less : tie.Need-loop-less Inv-loop μ-loop
+loop-less c = let l = front-length (bytesIn (c .before .before .before .before .before .before .before .before .args .line .now)) (c .before .before .before .before .before .before .before .before .args .bytes .now) (c .before .before .before .before .before .loop .i) (c .before .before .before .before .before .loop .inv .1) (omega (arith, bytes-length (c .before .before .before .before .before .before .before .before .args .line .now))) (c .before .before .before .before .before .loop .inv .0) in omega arith
+
+loop-again : tie.Need-loop-again Inv-loop μ-loop
+loop-again c = let l = front-length (bytesIn (c .before .before .before .before .before .before .before .before .args .line .now)) (c .before .before .before .before .before .before .before .before .args .bytes .now) (c .before .before .before .before .before .loop .i) (c .before .before .before .before .before .loop .inv .1) (omega (arith, bytes-length (c .before .before .before .before .before .before .before .before .args .line .now))) (c .before .before .before .before .before .loop .inv .0) in (
+  omega arith,
+  front-more (bytesIn (c .before .before .before .before .before .before .before .before .args .line .now)) (c .before .before .before .before .before .before .before .before .args .bytes .now) (c .before .before .before .before .before .loop .i) (c .before .before .before .before .before .loop .inv .1) _ (omega (arith, bytes-length (c .before .before .before .before .before .before .before .before .args .line .now))) (omega arith)
+      (rw (c .before .before .value .ensures .0, c .value2 .ensures .0) (sym (bytes-at (c .before .before .before .before .before .before .before .before .args .line .now) (c .before .before .before .before .before .loop .i) (omega arith)))),
+)
+
+same-length : tie.Need-same-length Inv-loop μ-loop
+same-length c = front-length (bytesIn (c .before .before .before .before .args .line .now)) (c .before .before .before .before .args .bytes .now) (c .before .loop .i) (c .before .loop .inv .1) (omega (arith, bytes-length (c .before .before .before .before .args .line .now))) (c .before .loop .inv .0)
+
+returns : tie.Need-returns Inv-loop μ-loop
+returns c = let l = front-length (bytesIn (c .before .before .before .before .args .line .now)) (c .before .before .before .before .args .bytes .now) (c .before .loop .i) (c .before .loop .inv .1) (omega (arith, bytes-length (c .before .before .before .before .args .line .now))) (c .before .loop .inv .0) in front-all (bytesIn (c .before .before .before .before .args .line .now)) (c .before .before .before .before .args .bytes .now) (c .before .loop .i) (c .before .loop .inv .1) (omega (arith, bytes-length (c .before .before .before .before .args .line .now))) (omega arith)
+
+pub decode-spec : {M : Type 1} → statement M
+decode-spec =
+    tie.close
+    (tie.spec
+    Inv-loop
+    μ-loop
+    loop-holds
+    mul-a
+    add-b
+    shared-slice-read-value
+    value-requires
+    mul-bytes
+    shared-slice-read-value-2
+    value-requires-2
+    add-bytes
+    slice-write-bytes
+    add-i
+    loop-less
+    loop-again
+    same-length
+    returns)

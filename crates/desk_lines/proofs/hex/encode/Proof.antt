@@ -1,0 +1,84 @@
+use mathlib.Core.Path.{_≡_, refl}
+use mathlib.Core.List.{_++_}
+use Prim.Native.Nat.{_*_, _-_, _≤_}
+use native.Mathlib.Omega.{arith}
+use lib.ListN.{length-set, length, take, drop}
+use denote.Ref.{now}
+use borrow.Author.Needs.{needs}
+use Rattle.desk_lines.specs.Hex.{lineOf}
+use Rattle.desk_lines.proofs.HexLaws.{encode-length, encode-more, encode-all}
+use Rattle.desk_lines.proofs.hex.encode.Tie as tie
+use Rattle.desk_lines.proofs.hex.encode.Statement.{statement}
+
+abbrev Inv-loop : tie.InvT-loop
+Inv-loop frame line₀ i₀ line i = (i ≤ length frame) × (line ≡ take (2 * i) (lineOf frame) ++ drop (2 * i) line₀)
+
+abbrev μ-loop : tie.MeasureT-loop
+μ-loop frame line₀ i₀ line i = length frame - i
+
+loop-holds : tie.Need-loop-holds Inv-loop μ-loop
+loop-holds c = (search needs, refl)
+
+shared-slice-read-b : tie.Need-shared-slice-read-b Inv-loop μ-loop
+shared-slice-read-b c = search needs
+
+mul-a : tie.Need-mul-a Inv-loop μ-loop
+mul-a c = search needs
+
+add-e : tie.Need-add-e Inv-loop μ-loop
+add-e c = search needs
+
+digit-requires : tie.Need-digit-requires Inv-loop μ-loop
+digit-requires c κs = omega (arith, c .shared-slice-known2 .given (c .before .before .loop .i))
+
+slice-write-line : tie.Need-slice-write-line Inv-loop μ-loop
+slice-write-line c = let l = encode-length (c .before .before .before .before .before .before .args .frame .now) (c .before .before .before .before .before .before .args .line .now) (c .before .before .before .before .before .before .pre) (c .before .before .before .loop .i) (c .before .before .before .loop .inv .1) (c .before .before .before .loop .inv .0) in omega arith
+
+digit-requires-2 : tie.Need-digit-requires-2 Inv-loop μ-loop
+digit-requires-2 c κs = search needs
+
+slice-write-line-2 : tie.Need-slice-write-line-2 Inv-loop μ-loop
+slice-write-line-2 c = let l = encode-length (c .before .before .before .before .before .before .before .args .frame .now) (c .before .before .before .before .before .before .before .args .line .now) (c .before .before .before .before .before .before .before .pre) (c .before .before .before .before .loop .i) (c .before .before .before .before .loop .inv .1) (c .before .before .before .before .loop .inv .0) in simp length-set (omega arith)
+
+add-i : tie.Need-add-i Inv-loop μ-loop
+add-i c = search needs
+
+loop-less : tie.Need-loop-less Inv-loop μ-loop
+loop-less c = search needs
+
+loop-again : tie.Need-loop-again Inv-loop μ-loop
+loop-again c = (omega arith, encode-more (c .before .before .before .before .before .before .before .args .frame .now) (c .before .before .before .before .before .before .before .args .line .now) (c .before .before .before .before .before .before .before .pre) (c .before .before .before .before .loop .i) (c .before .before .before .before .loop .inv .1) (c .before .before .before .before .loop .inv .0) _ _ (c .before .before .before .loop-test .taken) (c .before .digit .ensures) (c .digit2 .ensures))
+
+mul-last : tie.Need-mul-last Inv-loop μ-loop
+mul-last c = search needs
+
+slice-write-line-3 : tie.Need-slice-write-line-3 Inv-loop μ-loop
+slice-write-line-3 c = let l = encode-length (c .before .before .before .before .args .frame .now) (c .before .before .before .before .args .line .now) (c .before .before .before .before .pre) (c .before .loop .i) (c .before .loop .inv .1) (c .before .loop .inv .0) in omega arith
+
+same-length : tie.Need-same-length Inv-loop μ-loop
+same-length c = simp length-set (encode-length (c .before .before .before .before .args .frame .now) (c .before .before .before .before .args .line .now) (c .before .before .before .before .pre) (c .before .loop .i) (c .before .loop .inv .1) (c .before .loop .inv .0))
+
+returns : tie.Need-returns Inv-loop μ-loop
+returns c = encode-all (c .before .before .before .before .args .frame .now) (c .before .before .before .before .args .line .now) (c .before .before .before .before .pre) (c .before .loop .i) (c .before .loop .inv .1) (c .before .loop .inv .0) (c .loop-test .left)
+
+pub encode-spec : {M : Type 1} → statement M
+encode-spec =
+    tie.close
+    (tie.spec
+    Inv-loop
+    μ-loop
+    loop-holds
+    shared-slice-read-b
+    mul-a
+    add-e
+    digit-requires
+    slice-write-line
+    digit-requires-2
+    slice-write-line-2
+    add-i
+    loop-less
+    loop-again
+    mul-last
+    slice-write-line-3
+    same-length
+    returns)

@@ -1,0 +1,29 @@
+use native.Mathlib.Omega.{arith}
+use Rattle.desk_lines.proofs.HexLaws.{range-in}
+use Rattle.desk_lines.proofs.hex.value.Tie as tie
+use Rattle.desk_lines.proofs.hex.value.Statement.{statement}
+
+sub-result : tie.Need-sub-result
+sub-result c = range-in 48 (c .before .args .b) 57 (c .if1 .taken) .0
+
+returns : tie.Need-returns
+returns c = let h = range-in 48 (c .before .args .b) 57 (c .if1 .taken) in (rw (c .if1 .taken), omega arith)
+
+sub-result-2 : tie.Need-sub-result-2
+sub-result-2 c = let h = range-in 65 (c .before .before .args .b) 70 (c .if2 .taken) in omega arith
+
+returns-2 : tie.Need-returns-2
+returns-2 c = let h = range-in 65 (c .before .before .args .b) 70 (c .if2 .taken) in (rw (c .before .if1 .left, c .if2 .taken), omega arith)
+
+sub-result-3 : tie.Need-sub-result-3
+sub-result-3 c = let h = range-in 97 (c .before .before .before .args .b) 102 (c .if3 .taken) in omega arith
+
+returns-3 : tie.Need-returns-3
+returns-3 c = let h = range-in 97 (c .before .before .before .args .b) 102 (c .if3 .taken) in (rw (c .before .before .if1 .left, c .before .if2 .left, c .if3 .taken), omega arith)
+
+returns-4 : tie.Need-returns-4
+returns-4 c = (rw (c .before .before .if1 .left, c .before .if2 .left, c .if3 .left), omega arith)
+
+pub value-spec : {M : Type 1} → statement M
+value-spec =
+    tie.close (tie.spec sub-result returns sub-result-2 returns-2 sub-result-3 returns-3 returns-4)

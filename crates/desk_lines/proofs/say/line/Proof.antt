@@ -1,0 +1,47 @@
+use mathlib.Core.Path.{sym}
+use Prim.Native.Nat.{_+_, _*_}
+use lib.ListN.{length}
+use denote.Ref.{now}
+use borrow.Author.Needs.{needs}
+use Rattle.desk_lines.specs.Hex.{lineOf}
+use Rattle.desk_lines.proofs.OverLaws.{over-part}
+use Rattle.desk_lines.proofs.HexLaws.{line-length}
+use Rattle.desk_lines.proofs.say.line.Tie as tie
+use Rattle.desk_lines.proofs.say.line.Statement.{statement}
+
+mul-n : tie.Need-mul-n
+mul-n c = search needs
+
+add-n : tie.Need-add-n
+add-n c = search needs
+
+sub-encode : tie.Need-sub-encode
+sub-encode c = search needs
+
+part-encode-start : tie.Need-part-encode-start
+part-encode-start c = search needs
+
+part-encode-end : tie.Need-part-encode-end
+part-encode-end c = search needs
+
+encode-requires : tie.Need-encode-requires
+encode-requires c κs = search needs
+
+same-length : tie.Need-same-length
+same-length c = search needs
+
+returns : tie.Need-returns
+returns c = (sym (line-length (c .before .before .before .before .before .before .args .frame .now)), rw (c .before .before .encode .ensures) (over-part (lineOf (c .before .before .before .before .before .before .args .frame .now)) (c .before .before .before .before .before .before .args .out .now) (2 * length (c .before .before .before .before .before .before .args .frame .now) + 1) (sym (line-length (c .before .before .before .before .before .before .args .frame .now)))))
+
+pub line-spec : {M : Type 1} → statement M
+line-spec =
+    tie.close
+    (tie.spec
+    mul-n
+    add-n
+    sub-encode
+    part-encode-start
+    part-encode-end
+    encode-requires
+    same-length
+    returns)

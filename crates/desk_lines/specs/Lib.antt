@@ -1,0 +1,4 @@
+pub mod Hex
+pub mod Desk
+pub mod Served
+pub mod Kept

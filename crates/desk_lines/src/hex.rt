@@ -1,0 +1,84 @@
+// Hexadecimal, read in either case and written small.
+ghost use mathlib.Core.Path.{_≡_};
+ghost use Prim.Native.Nat.{_+_, _*_, _/_, _<_};
+ghost use lib.ListN.{length};
+ghost use Rattle.desk_lines.specs.Hex.{isHexDigit, hexValue, isHex, bytesIn, hexDigit, hexOf, lineOf};
+
+fn is_digit(b: u8) -> bool
+    ensures { λ r. ⌜ r ≡ isHexDigit b ⌝ }
+{
+    ((48 <= b) & (b <= 57)) | (((65 <= b) & (b <= 70)) | ((97 <= b) & (b <= 102)))
+}
+
+fn value(b: u8) -> u8
+    ensures { λ r. ⌜ (r ≡ hexValue b) × (r < 16) ⌝ }
+{
+    if (48 <= b) & (b <= 57) {
+        return b - 48;
+    }
+    if (65 <= b) & (b <= 70) {
+        return b - 55;
+    }
+    if (97 <= b) & (b <= 102) {
+        return b - 87;
+    }
+    0
+}
+
+// Whether a line is whole bytes.
+pub fn is_hex(line: &[u8]) -> bool
+    ensures { λ r. ⌜ r ≡ isHex (now (line .entry)) ⌝ }
+{
+    let mut i: usize = 0;
+    while i + 1 < line.len() {
+        let j = i + 1;
+        if is_digit(line[i]) & is_digit(line[j]) {
+            i += 2;
+        } else {
+            return false;
+        }
+    }
+    i == line.len()
+}
+
+// The bytes of a line.
+pub fn decode(line: &[u8], bytes: &mut [u8])
+    requires { ⌜ length (now bytes) ≡ length (now line) / 2 ⌝ }
+    ensures { λ _. ⌜ now (bytes .exit) ≡ bytesIn (now (line .entry)) ⌝ }
+{
+    let mut i: usize = 0;
+    while i < bytes.len() {
+        let a = 2 * i;
+        let b = a + 1;
+        bytes[i] = value(line[a]) * 16 + value(line[b]);
+        i += 1;
+    }
+}
+
+fn digit(n: u8) -> u8
+    requires { ⌜ n < 16 ⌝ }
+    ensures { λ r. ⌜ r ≡ hexDigit n ⌝ }
+{
+    if n < 10 {
+        return 48 + n;
+    }
+    87 + n
+}
+
+// The line of a frame, its newline too.
+pub fn encode(frame: &[u8], line: &mut [u8])
+    requires { ⌜ length (now line) ≡ 2 * length (now frame) + 1 ⌝ }
+    ensures { λ _. ⌜ now (line .exit) ≡ lineOf (now (frame .entry)) ⌝ }
+{
+    let mut i: usize = 0;
+    while i < frame.len() {
+        let b = frame[i];
+        let a = 2 * i;
+        let e = a + 1;
+        line[a] = digit(b / 16);
+        line[e] = digit(b % 16);
+        i += 1;
+    }
+    let last = 2 * frame.len();
+    line[last] = 10;
+}

@@ -1,0 +1,279 @@
+/*
+ * hakkiyolu.h: the C face of the Hakkiyolu location register.
+ *
+ * Telephone companies send data files: who has which number, and where. Counties send guide files: street ranges with
+ * their emergency zone (ESN). A take applies such a file to a register and a guide; a load file carries the register to
+ * a dispatch centre; a lookup finds a number for the dispatcher's screen.
+ *
+ * The register and the guide are plain bytes that the caller owns and lends to each call. Every call answers every
+ * input, however damaged: it has no error besides the numbers below.
+ *
+ * Libraries: hakkiyolu_lookup is in liblookup.a; hakkiyolu_take_data, hakkiyolu_take_guide and hakkiyolu_write_load are
+ * in libboundary.a. Neither needs the other, and both may be linked into one program in either order.
+ *
+ * RULES FOR BUFFERS, the same for every call. Each buffer is a pointer and, right behind it, its length in bytes.
+ *
+ *   - Buffers of one call do not overlap.
+ *   - A pointer is NULL only if its length is 0.
+ *   - A call reads and writes only within the lengths it is given, writes only to what is not const here, and keeps no
+ *     pointer once it has returned. The bytes need no alignment.
+ *   - A call uses no heap and no global state, only a few kilobytes of stack. So calls on different buffers may run in
+ *     parallel, and so may calls that only read the same buffer. While a call writes to a buffer, no other call may
+ *     read it: locking is the caller's.
+ *   - A refused file changes no lent byte. A record that is turned away changes only its own answer byte.
+ *
+ * Nothing but the caller's care keeps these declarations in step with the libraries: use the header and the libraries
+ * of one and the same build.
+ */
+#ifndef HAKKIYOLU_H
+#define HAKKIYOLU_H
+
+#include <stddef.h>
+#include <stdint.h>
+
+#ifdef __cplusplus
+extern "C" {
+#endif
+
+/* ---- Sizes ---------------------------------------------------------------------------------------------------- */
+
+/*
+ * One register slot. Byte 0 is the state, 1 to 4 the day number (high byte first), 5 to 7 are zero (a later version
+ * keeps a cycle there), 8 to 519 the record.
+ */
+#define HAKKIYOLU_REGISTER_SLOT_BYTES 520u
+/* One guide slot. Byte 0 is 0 (free) or 1 (used), 1 to 7 are zero, 8 to 207 the row. */
+#define HAKKIYOLU_GUIDE_SLOT_BYTES 208u
+/* Where the record or the row begins in its slot, counted from 0. */
+#define HAKKIYOLU_SLOT_LINE_AT 8u
+/* A register has 1 to this many slots, and so has a guide. A slot of zero bytes is free: zero them all to begin. */
+#define HAKKIYOLU_SLOTS_MOST 4096u
+
+/* One record of a data file or a load file. */
+#define HAKKIYOLU_RECORD_BYTES 512u
+/* One row of a guide file. */
+#define HAKKIYOLU_ROW_BYTES 200u
+/* The header of every file, its first line. */
+#define HAKKIYOLU_HEADER_BYTES 200u
+/* The trailer of every file, its last line. */
+#define HAKKIYOLU_TRAILER_BYTES 200u
+/* A file has 0 to this many records or rows. */
+#define HAKKIYOLU_RECORDS_MOST 9999u
+
+/* The length of a data file, or a load file, of n records. */
+#define HAKKIYOLU_DATA_FILE_BYTES(n) (HAKKIYOLU_HEADER_BYTES + HAKKIYOLU_RECORD_BYTES * (n) + HAKKIYOLU_TRAILER_BYTES)
+/* The length of a guide file of n rows. */
+#define HAKKIYOLU_GUIDE_FILE_BYTES(n) (HAKKIYOLU_HEADER_BYTES + HAKKIYOLU_ROW_BYTES * (n) + HAKKIYOLU_TRAILER_BYTES)
+
+/* A telephone number: area code and calling number, all digits, nothing between. */
+#define HAKKIYOLU_NUMBER_BYTES 10u
+/* A date: MMDDYY, a real day of 2000 to 2099. */
+#define HAKKIYOLU_DATE_BYTES 6u
+/* A company name as the header has it: not blank, its first byte no space, filled up with spaces. */
+#define HAKKIYOLU_NAME_BYTES 50u
+/* Cycles count from 1 to this and then begin again with 1. */
+#define HAKKIYOLU_CYCLE_MOST 999999u
+
+/* ---- States, refusals, answers -------------------------------------------------------------------------------- */
+
+/* The state of a number, as a lookup tells it and as byte 0 of its slot holds it. */
+enum hakkiyolu_state {
+    HAKKIYOLU_STATE_ABSENT = 0, /* no slot has the number (in byte 0 of a slot: the slot is free) */
+    HAKKIYOLU_STATE_HELD = 1,   /* a company holds the number: the entry is current */
+    HAKKIYOLU_STATE_OPEN = 2,   /* its company has unlocked the number and no company has migrated it yet */
+    HAKKIYOLU_STATE_RESTING = 3 /* the number was deleted; its slot may go to another number after 90 days */
+};
+
+/*
+ * Why a call was refused. The refusals of a take are tried in the order of their numbers, and the first that applies
+ * is told. Those of a load file are tried in the order 1, 26, 25; those of a lookup in the order 1, 10.
+ */
+enum hakkiyolu_refusal {
+    HAKKIYOLU_NOT_REFUSED = 0,         /* the call was done */
+    HAKKIYOLU_REFUSED_REGISTER = 1,    /* not 1 to 4096 whole register slots, or one unsound (a lookup tests no slot) */
+    HAKKIYOLU_REFUSED_GUIDE = 2,       /* not 1 to 4096 whole guide slots, or one unsound */
+    HAKKIYOLU_REFUSED_LENGTH = 3,      /* the file is not a header, 0 to 9999 whole records (or rows) and a trailer */
+    HAKKIYOLU_REFUSED_ANSWERS = 4,     /* the answers buffer is shorter than the number of records */
+    HAKKIYOLU_REFUSED_HEADER = 5,      /* the header is wrong: its mark, date, name, cycle, free part or final `*` */
+    HAKKIYOLU_REFUSED_CYCLE = 6,       /* the header's cycle does not follow `last`, or `last` is above 999999 */
+    HAKKIYOLU_REFUSED_TRAILER = 7,     /* the trailer is wrong, or its date or name is not the header's */
+    HAKKIYOLU_REFUSED_COUNT = 8,       /* the trailer's record count is not the number of records in the file */
+    HAKKIYOLU_REFUSED_RECORD = 9,      /* a record or row breaks a field rule: `place` and `position` tell where */
+    HAKKIYOLU_REFUSED_NUMBER = 10,     /* the number looked up is not ten digits */
+    HAKKIYOLU_REFUSED_OUTPUT = 25,     /* the output is too short for the load file */
+    HAKKIYOLU_REFUSED_LOAD_HEADER = 26 /* date, name or cycle wrong for a header, or the date before an entry's day */
+};
+
+/*
+ * What became of one record or row of a file that was taken: its answer byte. The first that applies is told.
+ * 11 to 20 are answers to data records, 21 to 24 to guide rows. I inserts, C changes, D deletes, U unlocks, M migrates.
+ */
+enum hakkiyolu_answer {
+    HAKKIYOLU_ANSWER_DONE = 0,            /* accepted and applied */
+    HAKKIYOLU_ANSWER_DATE_AHEAD = 11,     /* the record is dated after the file's header */
+    HAKKIYOLU_ANSWER_NUMBER_PRESENT = 12, /* I: the number is held or open already */
+    HAKKIYOLU_ANSWER_NUMBER_ABSENT = 13,  /* C, D, U, M: the number is absent or resting */
+    HAKKIYOLU_ANSWER_NUMBER_HELD = 14,    /* M: the number is held, its company has not unlocked it */
+    HAKKIYOLU_ANSWER_NUMBER_OPEN = 15,    /* C, D, U: the number is open, only M may come now */
+    HAKKIYOLU_ANSWER_OTHER_COMPANY = 16,  /* C, D, U: another company holds the number */
+    HAKKIYOLU_ANSWER_DATE_BEHIND = 17,    /* dated before the slot's day; I on a resting number: not after it */
+    HAKKIYOLU_ANSWER_NO_ROW = 18,         /* I, C, M: no guide row covers the address */
+    HAKKIYOLU_ANSWER_OTHER_ESN = 19,      /* I, C, M: the ESN is not blank and not that of the lowest covering row */
+    HAKKIYOLU_ANSWER_REGISTER_FULL = 20,  /* I: no free slot, and none has rested for 90 days by the header's date */
+    HAKKIYOLU_ANSWER_ROW_CLASHES = 21,    /* I: a present row of the same street covers one of its house numbers */
+    HAKKIYOLU_ANSWER_GUIDE_FULL = 22,     /* I: the guide has no free slot */
+    HAKKIYOLU_ANSWER_ROW_ABSENT = 23,     /* D: no row with these street fields, range, parity and ESN */
+    HAKKIYOLU_ANSWER_ROW_IN_USE = 24      /* D: the row covers a held or open entry */
+};
+
+/* ---- What calls return ---------------------------------------------------------------------------------------- */
+
+/* What a take returns. If it was refused, `records`, `done` and `undone` are 0 and `last` is as it was given. */
+struct hakkiyolu_taken {
+    uint32_t refusal;  /* 0, or the refusal 1 to 9 (enum hakkiyolu_refusal) */
+    uint32_t place;    /* refusal 9: the first bad record or row, from 1; otherwise 0 */
+    uint32_t position; /* refusal 9: the first byte of its first bad field, from 1; otherwise 0 */
+    uint32_t records;  /* how many records or rows the file has */
+    uint32_t done;     /* how many answers are 0 */
+    uint32_t undone;   /* how many answers are not 0; `done` and `undone` add up to `records` */
+    uint32_t last;     /* the last cycle after the call: keep it, and give it to the next take of this kind */
+};
+
+/* What writing a load file returns. If it was refused, `bytes` and `entries` are 0. */
+struct hakkiyolu_loaded {
+    uint32_t refusal; /* 0, or the refusal 1, 25 or 26 (enum hakkiyolu_refusal) */
+    uint32_t bytes;   /* how many bytes were written: the load file is that many bytes at the start of the output */
+    uint32_t entries; /* how many entries, held or open, the load file has */
+};
+
+/* ---- Calls ---------------------------------------------------------------------------------------------------- */
+
+/*
+ * Takes a data file: refuses it, or applies its records in turn, each to what the earlier ones left.
+ *
+ *   reg, reg_length          the register, read and written: 1 to 4096 slots of 520 bytes
+ *   guide, guide_length      the guide, read: 1 to 4096 slots of 208 bytes
+ *   file, file_length        the data file: header, records of 512 bytes, trailer
+ *   answers, answers_length  one byte for each record, written; bytes past the last record stay as they are, and in a
+ *                            file that is refused all do
+ *   last                     the cycle of the last data file taken into this register, 0 if none yet
+ */
+struct hakkiyolu_taken hakkiyolu_take_data(
+    uint8_t *reg, size_t reg_length,
+    const uint8_t *guide, size_t guide_length,
+    const uint8_t *file, size_t file_length,
+    uint8_t *answers, size_t answers_length,
+    uint32_t last);
+
+/*
+ * Takes a guide file: refuses it, or applies its rows in turn, each to what the earlier ones left.
+ *
+ *   reg, reg_length          the register: 1 to 4096 slots of 520 bytes. Today it is only read. It WILL BE WRITTEN TO
+ *                            in a later version, when a county can change the ESN of a row and of the entries under it.
+ *                            So lend the register that belongs to this guide, in memory that can be written to, and let
+ *                            no other call use it meanwhile
+ *   guide, guide_length      the guide, read and written: 1 to 4096 slots of 208 bytes
+ *   file, file_length        the guide file: header, rows of 200 bytes, trailer
+ *   answers, answers_length  one byte for each row, written; bytes past the last row stay as they are, and in a file
+ *                            that is refused all do
+ *   last                     the cycle of the last guide file taken into this guide, 0 if none yet. Guide files and
+ *                            data files count their cycles apart
+ */
+struct hakkiyolu_taken hakkiyolu_take_guide(
+    const uint8_t *reg, size_t reg_length,
+    uint8_t *guide, size_t guide_length,
+    const uint8_t *file, size_t file_length,
+    uint8_t *answers, size_t answers_length,
+    uint32_t last);
+
+/*
+ * Writes a load file: a header, every held or open record in the order of the slots, with Function `I` and Source `C`,
+ * and a trailer. HAKKIYOLU_DATA_FILE_BYTES(slots of the register) bytes of output are always enough.
+ *
+ *   reg, reg_length    the register, read: 1 to 4096 slots of 520 bytes
+ *   date, date_length  the date of the load file, 6 bytes MMDDYY, no earlier than the day of any held or open entry
+ *   name, name_length  the company name, 50 bytes, filled up with spaces
+ *   cycle              the cycle of the load file, 1 to 999999
+ *   out, out_length    the output, written; bytes past the load file stay as they are, and if refused all do
+ */
+struct hakkiyolu_loaded hakkiyolu_write_load(
+    const uint8_t *reg, size_t reg_length,
+    const uint8_t *date, size_t date_length,
+    const uint8_t *name, size_t name_length,
+    uint32_t cycle,
+    uint8_t *out, size_t out_length);
+
+/*
+ * Looks a number up: the lowest used slot that has it. Only the register's length and the number's form are tested, so
+ * that a damaged slot hides no other; a slot whose state is above 3 is passed over.
+ *
+ *   reg, reg_length        the register, read: 1 to 4096 slots of 520 bytes
+ *   number, number_length  the number, 10 digits
+ *
+ * Returns one number that the four functions below take apart. All parts are 0 if the lookup was refused, but for the
+ * refusal.
+ *
+ *   bits 0 to 15    how many slots were looked at: slot + 1 if found, all slots if not
+ *   bits 16 to 31   the slot, from 0; 0 if absent
+ *   bits 32 to 35   the state (enum hakkiyolu_state)
+ *   bits 36 to 39   the refusal: 0, 1 or 10 (enum hakkiyolu_refusal)
+ *   bits 40 to 63   0 today, kept for three bytes that a later version adds: do not test that they are 0
+ */
+uint64_t hakkiyolu_lookup(
+    const uint8_t *reg, size_t reg_length,
+    const uint8_t *number, size_t number_length);
+
+/* How many slots the lookup looked at. `seen` is what hakkiyolu_lookup returned, here and in the next three. */
+static inline uint32_t hakkiyolu_seen_looked(uint64_t seen)
+{
+    return seen & 0xFFFFu;
+}
+
+/* The slot, from 0, of a number that is not absent. Its record begins 8 bytes into the slot. */
+static inline uint32_t hakkiyolu_seen_slot(uint64_t seen)
+{
+    return (seen >> 16) & 0xFFFFu;
+}
+
+/* The state of the number (enum hakkiyolu_state). */
+static inline uint32_t hakkiyolu_seen_state(uint64_t seen)
+{
+    return (seen >> 32) & 0xFu;
+}
+
+/* Why the lookup was refused, 0 if it was not (enum hakkiyolu_refusal). Ask this before the others. */
+static inline uint32_t hakkiyolu_seen_refusal(uint64_t seen)
+{
+    return (seen >> 36) & 0xFu;
+}
+
+/* ---- The layout that the libraries were compiled for ---------------------------------------------------------- */
+
+#if defined(__cplusplus) && __cplusplus >= 201103L
+#define HAKKIYOLU_ASSERT(test, words) static_assert(test, words)
+#elif defined(__STDC_VERSION__) && __STDC_VERSION__ >= 201112L
+#define HAKKIYOLU_ASSERT(test, words) _Static_assert(test, words)
+#endif
+
+#ifdef HAKKIYOLU_ASSERT
+HAKKIYOLU_ASSERT(sizeof(size_t) == 8, "the libraries are for x86-64: lengths have 8 bytes");
+HAKKIYOLU_ASSERT(sizeof(struct hakkiyolu_taken) == 28, "hakkiyolu_taken has 28 bytes");
+HAKKIYOLU_ASSERT(offsetof(struct hakkiyolu_taken, refusal) == 0, "refusal is at 0");
+HAKKIYOLU_ASSERT(offsetof(struct hakkiyolu_taken, place) == 4, "place is at 4");
+HAKKIYOLU_ASSERT(offsetof(struct hakkiyolu_taken, position) == 8, "position is at 8");
+HAKKIYOLU_ASSERT(offsetof(struct hakkiyolu_taken, records) == 12, "records is at 12");
+HAKKIYOLU_ASSERT(offsetof(struct hakkiyolu_taken, done) == 16, "done is at 16");
+HAKKIYOLU_ASSERT(offsetof(struct hakkiyolu_taken, undone) == 20, "undone is at 20");
+HAKKIYOLU_ASSERT(offsetof(struct hakkiyolu_taken, last) == 24, "last is at 24");
+HAKKIYOLU_ASSERT(sizeof(struct hakkiyolu_loaded) == 12, "hakkiyolu_loaded has 12 bytes");
+HAKKIYOLU_ASSERT(offsetof(struct hakkiyolu_loaded, refusal) == 0, "refusal is at 0");
+HAKKIYOLU_ASSERT(offsetof(struct hakkiyolu_loaded, bytes) == 4, "bytes is at 4");
+HAKKIYOLU_ASSERT(offsetof(struct hakkiyolu_loaded, entries) == 8, "entries is at 8");
+#undef HAKKIYOLU_ASSERT
+#endif
+
+#ifdef __cplusplus
+}
+#endif
+
+#endif

@@ -1,0 +1,241 @@
+//! `bench`: library, model and floor in one run, as a table. The floor is a copy
+//! of the bytes that a call is lent; for a lookup, one load a slot.
+
+use outside::face::Library;
+use outside::gen::file;
+use outside::model::layout::{EDGES, GUIDE_SLOT, MOST_RECORDS, MOST_SLOTS, RECORD, REGISTER_SLOT};
+use outside::model::Described;
+use outside::subject::{Model, Subject};
+use outside::town;
+use std::hint::black_box;
+use std::time::{Duration, Instant};
+
+/// Rounds of a case; each times library, model and floor, one after another.
+const ROUNDS: usize = 9;
+/// A quick thing is repeated until a round of it lasts this long.
+const ROUND: Duration = Duration::from_millis(4);
+
+/// Prepares, then times, one pass of something.
+type Pass<'a> = Box<dyn FnMut() -> Duration + 'a>;
+
+/// Times `body` alone.
+fn timed<T>(body: impl FnOnce() -> T) -> Duration {
+    let start = Instant::now();
+    black_box(body());
+    start.elapsed()
+}
+
+/// One round's time of a pass, in nanoseconds.
+fn round(pass: &mut Pass) -> f64 {
+    let (mut total, mut passes) = (Duration::ZERO, 0);
+    while total < ROUND {
+        total += pass();
+        passes += 1;
+    }
+    total.as_nanos() as f64 / f64::from(passes)
+}
+
+fn median(mut times: Vec<f64>) -> f64 {
+    times.sort_by(f64::total_cmp);
+    times[times.len() / 2]
+}
+
+/// Prints a row of the table. Ratios are taken round by round, so that a slow
+/// spell of the computer does not count for one side only.
+fn report(name: &str, mut library: Pass, mut model: Pass, mut floor: Pass) {
+    let rounds: Vec<[f64; 3]> = (0..ROUNDS)
+        .map(|_| [round(&mut library), round(&mut model), round(&mut floor)])
+        .collect();
+    let time = |of: usize| median(rounds.iter().map(|round| round[of] / 1000.0).collect());
+    let ratio = |of: usize, to: usize| {
+        let ratios = rounds.iter().map(|round| round[of] / round[to]);
+        median(ratios.collect())
+    };
+    println!(
+        "| {name} | {:.2} | {:.2} | {:.2} | {:.2} | {:.2} | {:.2} |",
+        time(0),
+        time(1),
+        time(2),
+        ratio(0, 1),
+        ratio(0, 2),
+        ratio(1, 2)
+    );
+}
+
+/// Copies what is lent.
+fn copying<'a>(lent: Vec<&'a [u8]>) -> Pass<'a> {
+    let most = lent.iter().map(|bytes| bytes.len()).max().unwrap_or(0);
+    let mut to = vec![0; most];
+    Box::new(move || {
+        timed(|| {
+            for bytes in &lent {
+                to[..bytes.len()].copy_from_slice(bytes);
+                black_box(&to);
+            }
+        })
+    })
+}
+
+/// Takes of a data file, each on the register as it was.
+fn data<'a>(
+    subject: &'a impl Subject,
+    register: &'a [u8],
+    guide: &'a [u8],
+    file: &'a [u8],
+) -> Pass<'a> {
+    let mut lent = register.to_vec();
+    let mut answers = vec![0; MOST_RECORDS];
+    Box::new(move || {
+        lent.copy_from_slice(register);
+        answers.fill(0xee);
+        timed(|| subject.take_data(&mut lent, guide, file, &mut answers, 0))
+    })
+}
+
+/// Takes of a guide file, each on the guide as it was.
+fn rows<'a>(
+    subject: &'a impl Subject,
+    register: &'a [u8],
+    guide: &'a [u8],
+    file: &'a [u8],
+) -> Pass<'a> {
+    let mut lent = guide.to_vec();
+    let mut answers = vec![0; MOST_RECORDS];
+    Box::new(move || {
+        lent.copy_from_slice(guide);
+        answers.fill(0xee);
+        timed(|| subject.take_guide(register, &mut lent, file, &mut answers, 0))
+    })
+}
+
+fn lookup<'a>(subject: &'a impl Subject, register: &'a [u8], number: &'a [u8]) -> Pass<'a> {
+    Box::new(move || timed(|| subject.lookup(black_box(register), number)))
+}
+
+fn load<'a>(subject: &'a impl Subject, register: &'a [u8], out: usize) -> Pass<'a> {
+    let name = outside::gen::NAME;
+    let mut out = vec![0; out];
+    Box::new(move || {
+        out.fill(0xee);
+        timed(|| subject.write_load(register, b"010224", name, 1, &mut out))
+    })
+}
+
+/// One byte of every slot.
+fn loads(register: &[u8]) -> Pass<'_> {
+    Box::new(move || {
+        timed(|| {
+            let firsts = black_box(register).iter().step_by(REGISTER_SLOT);
+            firsts.fold(0_u8, |all, byte| all ^ byte)
+        })
+    })
+}
+
+/// The cases at a size of stores.
+struct Bench {
+    slots: usize,
+    guide: Vec<u8>,
+    register: Vec<u8>,
+}
+
+const MODEL: Model<Described> = Model::new();
+
+impl Bench {
+    fn new(slots: usize) -> Self {
+        let guide = town::guide(slots);
+        let register = town::register(slots, &guide);
+        Bench {
+            slots,
+            guide,
+            register,
+        }
+    }
+
+    fn lookups(&self) {
+        for (what, number) in [
+            ("hit in the last slot", town::number_at(self.slots - 1)),
+            ("miss", b"9999999999".to_vec()),
+        ] {
+            let library = lookup(&Library, &self.register, &number);
+            let model = lookup(&MODEL, &self.register, &number);
+            let name = format!("lookup, {what}, {} slots", self.slots);
+            report(&name, library, model, loads(&self.register));
+        }
+    }
+
+    fn data(&self, records: usize) {
+        let file = town::mixed_file(records, self.slots, self.slots);
+        let (register, guide) = (&self.register, &self.guide);
+        let name = format!(
+            "take_data, {records} records, {} slots and rows",
+            self.slots
+        );
+        let library = data(&Library, register, guide, &file);
+        let model = data(&MODEL, register, guide, &file);
+        report(&name, library, model, copying(vec![register, guide, &file]));
+    }
+
+    fn rows(&self) {
+        let file = town::guide_file(self.slots);
+        let empty = vec![0; self.slots * GUIDE_SLOT];
+        let register = &self.register;
+        let name = format!("take_guide, {} rows into as many slots", self.slots);
+        let library = rows(&Library, register, &empty, &file);
+        let model = rows(&MODEL, register, &empty, &file);
+        report(
+            &name,
+            library,
+            model,
+            copying(vec![register, &empty, &file]),
+        );
+    }
+
+    fn soundness(&self) {
+        let file = file(b"010224", 1, b"", 0);
+        let (register, guide) = (&self.register, &self.guide);
+        let name = format!(
+            "soundness (take of 0 records), {} slots and rows",
+            self.slots
+        );
+        let library = data(&Library, register, guide, &file);
+        let model = data(&MODEL, register, guide, &file);
+        report(&name, library, model, copying(vec![register, guide, &file]));
+    }
+
+    fn load(&self) {
+        let out = EDGES + self.slots * RECORD;
+        let register = &self.register;
+        let library = load(&Library, register, out);
+        let name = format!("load file, {} entries", self.slots);
+        report(
+            &name,
+            library,
+            load(&MODEL, register, out),
+            copying(vec![register]),
+        );
+    }
+}
+
+fn main() {
+    println!(
+        "| case | library µs | model µs | floor µs | library/model | library/floor | model/floor |"
+    );
+    println!("|---|---|---|---|---|---|---|");
+    let full = Bench::new(MOST_SLOTS);
+    full.lookups();
+    full.data(MOST_RECORDS);
+    full.rows();
+    full.load();
+    full.soundness();
+    for slots in [512, 1024, 2048, 4096] {
+        let bench = Bench::new(slots);
+        bench.lookups();
+        bench.data(slots);
+        bench.rows();
+        bench.load();
+        bench.soundness();
+    }
+    for records in [512, 1024, 2048, 4096, 8192] {
+        full.data(records);
+    }
+}

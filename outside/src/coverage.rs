@@ -1,0 +1,167 @@
+//! How often each refusal, answer, fault position and damaged byte came up.
+
+use crate::call::{Call, Op, Outcome};
+use crate::model::layout::{record, row, Field, EDGE, RECORD, ROW};
+
+/// The parts of files that bytes are damaged in.
+#[derive(Clone, Copy, Debug, PartialEq, Eq)]
+pub enum Part {
+    /// A header.
+    Header,
+    /// A trailer.
+    Trailer,
+    /// A data record.
+    Record,
+    /// A guide row.
+    Row,
+}
+
+impl Part {
+    /// All parts with their lengths.
+    pub const ALL: [(Part, usize); 4] = [
+        (Part::Header, EDGE),
+        (Part::Trailer, EDGE),
+        (Part::Record, RECORD),
+        (Part::Row, ROW),
+    ];
+}
+
+/// Refusal numbers go to 26.
+const NUMBERS: usize = 27;
+
+/// The counts.
+pub struct Coverage {
+    refusals: [[u64; NUMBERS]; 4],
+    answers: [[u64; NUMBERS]; 4],
+    faults: [[u64; RECORD + 1]; 4],
+    damaged: [[u64; RECORD]; 4],
+}
+
+impl Default for Coverage {
+    fn default() -> Self {
+        Coverage {
+            refusals: [[0; NUMBERS]; 4],
+            answers: [[0; NUMBERS]; 4],
+            faults: [[0; RECORD + 1]; 4],
+            damaged: [[0; RECORD]; 4],
+        }
+    }
+}
+
+/// The refusals that each function can give, no refusal among them.
+fn refusals(op: Op) -> &'static [usize] {
+    match op {
+        Op::TakeData | Op::TakeGuide => &[0, 1, 2, 3, 4, 5, 6, 7, 8, 9],
+        Op::Lookup => &[0, 1, 10],
+        Op::WriteLoad => &[0, 1, 25, 26],
+    }
+}
+
+/// The answers that each take can give.
+fn answers(op: Op) -> &'static [usize] {
+    match op {
+        Op::TakeData => &[0, 11, 12, 13, 14, 15, 16, 17, 18, 19, 20],
+        Op::TakeGuide => &[0, 21, 22, 23, 24],
+        Op::Lookup | Op::WriteLoad => &[],
+    }
+}
+
+/// The fields whose faults a take can find.
+fn fields(op: Op) -> &'static [Field] {
+    match op {
+        Op::TakeData => &record::FIELDS,
+        Op::TakeGuide => &row::FIELDS,
+        Op::Lookup | Op::WriteLoad => &[],
+    }
+}
+
+impl Coverage {
+    /// Counts a call's outcome.
+    pub fn note(&mut self, call: &Call, outcome: &Outcome) {
+        let op = call.op as usize;
+        let refusal = outcome.refusal() as usize;
+        self.refusals[op][refusal] += 1;
+        if !matches!(call.op, Op::TakeData | Op::TakeGuide) {
+            return;
+        }
+        if refusal == 9 {
+            self.faults[op][outcome.returned[2] as usize] += 1;
+        }
+        let applied = outcome.returned[3] as usize;
+        for &answer in &outcome.lent[3][..applied] {
+            self.answers[op][usize::from(answer)] += 1;
+        }
+    }
+
+    /// Counts a damaged byte, from 0.
+    pub fn note_damage(&mut self, part: Part, byte: usize) {
+        self.damaged[part as usize][byte] += 1;
+    }
+
+    /// What came up, a line a kind.
+    pub fn lines(&self) -> Vec<String> {
+        let mut lines = Vec::new();
+        let list = |numbers: &[usize], counts: &[u64]| -> String {
+            let one = |&number: &usize| format!(" {number}:{}", counts[number]);
+            numbers.iter().map(one).collect()
+        };
+        for op in Op::ALL {
+            let (name, at) = (op.name(), op as usize);
+            let refusals = list(refusals(op), &self.refusals[at]);
+            lines.push(format!("{name} refusals{refusals}"));
+            if !answers(op).is_empty() {
+                let answers = list(answers(op), &self.answers[at]);
+                lines.push(format!("{name} answers{answers}"));
+                let firsts: Vec<usize> = fields(op).iter().map(|field| field.first).collect();
+                let faults = list(&firsts, &self.faults[at]);
+                lines.push(format!("{name} fault positions{faults}"));
+            }
+        }
+        for (part, length) in Part::ALL {
+            let hit = &self.damaged[part as usize][..length];
+            let bytes = hit.iter().filter(|&&count| count > 0).count();
+            let least = hit.iter().min().unwrap_or(&0);
+            lines.push(format!(
+                "{part:?} bytes damaged {bytes} of {length}, least often {least}"
+            ));
+        }
+        lines
+    }
+
+    /// What never came up.
+    pub fn missing(&self) -> Vec<String> {
+        let mut missing = Vec::new();
+        let mut want = |count: u64, what: String| {
+            if count == 0 {
+                missing.push(what);
+            }
+        };
+        for op in Op::ALL {
+            let (name, at) = (op.name(), op as usize);
+            for &number in refusals(op) {
+                want(
+                    self.refusals[at][number],
+                    format!("{name} refusal {number}"),
+                );
+            }
+            for &number in answers(op) {
+                want(self.answers[at][number], format!("{name} answer {number}"));
+            }
+            for field in fields(op) {
+                want(
+                    self.faults[at][field.first],
+                    format!("{name} fault at {}", field.first),
+                );
+            }
+        }
+        for (part, length) in Part::ALL {
+            for byte in 0..length {
+                want(
+                    self.damaged[part as usize][byte],
+                    format!("{part:?} byte {byte}"),
+                );
+            }
+        }
+        missing
+    }
+}

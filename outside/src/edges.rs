@@ -1,0 +1,148 @@
+//! Calls at the edges: sizes of stores and files, short buffers, last cycles.
+
+use crate::call::{Call, Op, Outcome};
+use crate::damage::LASTS;
+use crate::explore::{Explorer, Finding};
+use crate::gen::{file, next_cycle, World};
+use crate::model::layout::{GUIDE_SLOT, MOST_SLOTS, RECORD, REGISTER_SLOT};
+use crate::subject::Subject;
+
+/// Sizes of stores.
+const SLOTS: [usize; 4] = [1, 2, 64, MOST_SLOTS];
+/// Sizes of files.
+const RECORDS: [usize; 5] = [0, 1, 127, 9999, 10_000];
+
+/// A take of this world's with the file given.
+fn take(world: &World, op: Op, file: Vec<u8>, answers: usize) -> Call {
+    let given = match op {
+        Op::TakeData => world.last_data,
+        _ => world.last_guide,
+    };
+    let answers = vec![0xee; answers];
+    Call {
+        op,
+        given,
+        lent: vec![world.register.clone(), world.guide.clone(), file, answers],
+    }
+}
+
+impl<A: Subject, B: Subject> Explorer<'_, A, B> {
+    /// Every edge once.
+    pub fn edges(&mut self, seed: u64) -> Result<(), Finding> {
+        for (place, slots) in SLOTS.into_iter().enumerate() {
+            let mut world = World::sized(seed ^ place as u64, slots, slots);
+            self.file_sizes(&mut world)?;
+            self.last_cycles(&mut world)?;
+            self.store_lengths(&world)?;
+            self.lookups(&world)?;
+            self.load_files(&mut world)?;
+        }
+        Ok(())
+    }
+
+    /// Guide and data files of every size, with answers buffers that just hold
+    /// the answers, are a byte short, or have bytes to spare.
+    fn file_sizes(&mut self, world: &mut World) -> Result<(), Finding> {
+        for op in [Op::TakeGuide, Op::TakeData] {
+            for count in RECORDS {
+                let file = match op {
+                    Op::TakeGuide => world.guide_file(count),
+                    _ => world.data_file(count),
+                };
+                let short = take(world, op, file.clone(), count.saturating_sub(1));
+                self.compare(&short, count)?;
+                let call = take(world, op, file, count + count % 2);
+                let outcome = self.compare(&call, count + 1)?;
+                world.adopt(op, &outcome.returned, &outcome.lent);
+            }
+        }
+        Ok(())
+    }
+
+    /// Every last cycle with the cycle after it, 1 and 999999, n = 0.
+    fn last_cycles(&mut self, world: &mut World) -> Result<(), Finding> {
+        for op in [Op::TakeGuide, Op::TakeData] {
+            for last in LASTS {
+                for cycle in [next_cycle(last), 1, 999_999] {
+                    let empty = file(b"010100", cycle % 1_000_000, b"", 0);
+                    let mut call = take(world, op, empty, 0);
+                    call.given = last;
+                    self.compare(&call, 7)?;
+                }
+            }
+        }
+        Ok(())
+    }
+
+    /// Stores that are a byte or a slot off, and the largest and one too large.
+    fn store_lengths(&mut self, world: &World) -> Result<(), Finding> {
+        for op in [Op::TakeGuide, Op::TakeData] {
+            for (store, slot) in [(0, REGISTER_SLOT), (1, GUIDE_SLOT)] {
+                let now = world.guide.len() / GUIDE_SLOT * slot;
+                let most = MOST_SLOTS * slot;
+                for length in [0, 1, now - 1, now + 1, most, most + slot] {
+                    let empty = file(b"123199", 1, b"", 0);
+                    let mut call = take(world, op, empty, 0);
+                    call.given = 0;
+                    call.lent[store].resize(length, 0);
+                    self.compare(&call, length)?;
+                }
+            }
+        }
+        Ok(())
+    }
+
+    /// Every slot's number in a few slots, the ends of a long register, a number
+    /// that is not there, and what is no number.
+    fn lookups(&mut self, world: &World) -> Result<(), Finding> {
+        let slots = world.register.len() / REGISTER_SLOT;
+        let mut numbers: Vec<Vec<u8>> = [0, slots / 2, slots - 1]
+            .iter()
+            .map(|slot| world.register[slot * REGISTER_SLOT + 9..][..10].to_vec())
+            .collect();
+        for text in [
+            "9999999999",
+            "",
+            "503555010",
+            "50355501000",
+            "50355501 0",
+            "503555010:",
+        ] {
+            numbers.push(text.as_bytes().to_vec());
+        }
+        for number in numbers {
+            for off in [0, 1, 519, 520] {
+                let mut register = world.register.clone();
+                register.truncate(register.len() - off);
+                let call = Call {
+                    op: Op::Lookup,
+                    given: 0,
+                    lent: vec![register, number.clone()],
+                };
+                self.compare(&call, off)?;
+            }
+        }
+        Ok(())
+    }
+
+    /// Load files with room to the byte, and every cycle at which something
+    /// changes.
+    fn load_files(&mut self, world: &mut World) -> Result<(), Finding> {
+        let mut call = world.write_load();
+        call.lent[1] = b"123199".to_vec();
+        call.given = 1;
+        let slots = world.register.len() / REGISTER_SLOT;
+        call.lent[3].resize(400 + slots * RECORD, 0x55);
+        let full: Outcome = self.compare(&call, 3)?;
+        for room in [full.returned[1] as usize, full.returned[1] as usize - 1, 0] {
+            call.lent[3].resize(room, 0x55);
+            self.compare(&call, room)?;
+        }
+        call.lent[3].resize(full.returned[1] as usize, 0x55);
+        for cycle in LASTS {
+            call.given = cycle;
+            self.compare(&call, 11)?;
+        }
+        Ok(())
+    }
+}

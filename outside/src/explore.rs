@@ -1,0 +1,121 @@
+//! Compares two subjects on random runs, and holds the runs to the demands.
+
+use crate::call::{Call, Op, Outcome};
+use crate::coverage::Coverage;
+use crate::damage::damage;
+use crate::demands::{round_trip, History};
+use crate::gen::World;
+use crate::model::layout::REGISTER_SLOT;
+use crate::model::store::{guide_sound, register_sound};
+use crate::model::Described;
+use crate::random::Random;
+use crate::shrink::shrink;
+use crate::subject::Subject;
+use crate::vectors::line;
+
+/// A difference, or a demand that a run did not keep.
+pub struct Finding {
+    /// What differs.
+    pub what: String,
+    /// The call, as a line of a calls file, with what was expected.
+    pub line: String,
+}
+
+/// Calls compared so far and what they covered.
+pub struct Explorer<'a, A, B> {
+    expected: &'a A,
+    got: &'a B,
+    /// How many calls were compared.
+    pub calls: u64,
+    /// What came up.
+    pub coverage: Coverage,
+}
+
+impl<'a, A: Subject, B: Subject> Explorer<'a, A, B> {
+    /// Compares what is got with what is expected.
+    pub fn new(expected: &'a A, got: &'a B) -> Self {
+        Explorer {
+            expected,
+            got,
+            calls: 0,
+            coverage: Coverage::default(),
+        }
+    }
+
+    /// Compares one call; the outcome is the same for both.
+    pub fn compare(&mut self, call: &Call, shift: usize) -> Result<Outcome, Finding> {
+        self.calls += 1;
+        let got = call.run(self.got, shift);
+        let expected = call.run(self.expected, shift);
+        if call.difference(&expected, &got).is_some() {
+            return Err(self.smallest(call, shift));
+        }
+        self.coverage.note(call, &got);
+        Ok(got)
+    }
+
+    /// The difference on as small a call as shows one.
+    fn smallest(&self, call: &Call, shift: usize) -> Finding {
+        let both = |call: &Call| (call.run(self.expected, shift), call.run(self.got, shift));
+        let difference = |call: &Call| {
+            let (expected, got) = both(call);
+            call.difference(&expected, &got)
+        };
+        let small = shrink(call, |call| difference(call).is_some());
+        Finding {
+            what: difference(&small).unwrap_or_default(),
+            line: line(&small, &both(&small).0, "expected"),
+        }
+    }
+
+    /// One run from empty stores.
+    pub fn run(&mut self, seed: u64) -> Result<(), Finding> {
+        let mut world = World::new(seed);
+        let mut random = Random::new(!seed);
+        let mut history = History::default();
+        let small = world.register.len() <= 64 * REGISTER_SLOT;
+        for left in (0..random.between(4, 40)).rev() {
+            let (mut call, whole) = self.next_call(&mut world, &mut random);
+            let goes_on = whole || damage(&mut random, &mut self.coverage, &mut call);
+            let outcome = self.compare(&call, random.below(64))?;
+            let mut kept = Ok(());
+            if goes_on {
+                world.adopt(call.op, &outcome.returned, &outcome.lent);
+                kept = history.note(&call, &outcome);
+            }
+            // Large stores are held to the demands when the run ends.
+            if small && goes_on || left == 0 {
+                kept = kept.and_then(|()| self.demands(&history, &world));
+            }
+            kept.map_err(|what| Finding {
+                what: format!("{what} (run {seed})"),
+                line: line(&call, &outcome, "demand"),
+            })?;
+        }
+        Ok(())
+    }
+
+    /// A call for the world as it is, and whether it is left undamaged.
+    fn next_call(&mut self, world: &mut World, random: &mut Random) -> (Call, bool) {
+        let call = match random.below(16) {
+            0..=3 => world.take_guide(),
+            4 | 5 => world.lookup(),
+            6 | 7 => world.write_load(),
+            _ => world.take_data(),
+        };
+        // Runs get far only if most takes of theirs are accepted.
+        let whole = random.chance(if call.op == Op::TakeData { 55 } else { 45 });
+        (call, whole)
+    }
+
+    /// The brief's demands on what a run has left.
+    fn demands(&self, history: &History, world: &World) -> Result<(), String> {
+        let sound =
+            register_sound::<Described>(&world.register) && guide_sound::<Described>(&world.guide);
+        if !sound {
+            return Err("a store is left unsound".to_string());
+        }
+        history.check(&world.register, &world.guide)?;
+        round_trip(self.got, &world.register, &world.guide)
+    }
+}

@@ -1,0 +1,179 @@
+//! A safe face of the compiled static libraries. The only file with `unsafe`.
+
+use crate::model::{Found, Loaded, Taken};
+use crate::subject::Subject;
+
+extern "C" {
+    fn hakkiyolu_take_data(
+        register: *mut u8,
+        register_length: usize,
+        guide: *const u8,
+        guide_length: usize,
+        file: *const u8,
+        file_length: usize,
+        answers: *mut u8,
+        answers_length: usize,
+        last: u32,
+    ) -> Taken;
+
+    fn hakkiyolu_take_guide(
+        register: *const u8,
+        register_length: usize,
+        guide: *mut u8,
+        guide_length: usize,
+        file: *const u8,
+        file_length: usize,
+        answers: *mut u8,
+        answers_length: usize,
+        last: u32,
+    ) -> Taken;
+
+    fn hakkiyolu_write_load(
+        register: *const u8,
+        register_length: usize,
+        date: *const u8,
+        date_length: usize,
+        name: *const u8,
+        name_length: usize,
+        cycle: u32,
+        out: *mut u8,
+        out_length: usize,
+    ) -> Loaded;
+
+    fn hakkiyolu_lookup(
+        register: *const u8,
+        register_length: usize,
+        number: *const u8,
+        number_length: usize,
+    ) -> u64;
+}
+
+/// The compiled libraries.
+pub struct Library;
+
+/// A C program may lend no bytes as NULL, so that is what is tried.
+fn start(bytes: &[u8]) -> *const u8 {
+    if bytes.is_empty() {
+        std::ptr::null()
+    } else {
+        bytes.as_ptr()
+    }
+}
+
+/// As `start`, for bytes to be written.
+fn start_mut(bytes: &mut [u8]) -> *mut u8 {
+    if bytes.is_empty() {
+        std::ptr::null_mut()
+    } else {
+        bytes.as_mut_ptr()
+    }
+}
+
+// SAFETY of every call below: each pointer comes with the length of the slice it
+// was made from, slices do not overlap by Rust's own rules, what is lent as
+// `*const` is not written (the guard and compare tests watch that), and nothing
+// is kept after the call.
+impl Subject for Library {
+    fn take_data(
+        &self,
+        register: &mut [u8],
+        guide: &[u8],
+        file: &[u8],
+        answers: &mut [u8],
+        last: u32,
+    ) -> Taken {
+        unsafe {
+            hakkiyolu_take_data(
+                start_mut(register),
+                register.len(),
+                start(guide),
+                guide.len(),
+                start(file),
+                file.len(),
+                start_mut(answers),
+                answers.len(),
+                last,
+            )
+        }
+    }
+
+    fn take_guide(
+        &self,
+        register: &[u8],
+        guide: &mut [u8],
+        file: &[u8],
+        answers: &mut [u8],
+        last: u32,
+    ) -> Taken {
+        unsafe {
+            hakkiyolu_take_guide(
+                start(register),
+                register.len(),
+                start_mut(guide),
+                guide.len(),
+                start(file),
+                file.len(),
+                start_mut(answers),
+                answers.len(),
+                last,
+            )
+        }
+    }
+
+    fn lookup(&self, register: &[u8], number: &[u8]) -> Found {
+        let packed = unsafe {
+            hakkiyolu_lookup(start(register), register.len(), start(number), number.len())
+        };
+        unpack(packed)
+    }
+
+    fn write_load(
+        &self,
+        register: &[u8],
+        date: &[u8],
+        name: &[u8],
+        cycle: u32,
+        out: &mut [u8],
+    ) -> Loaded {
+        unsafe {
+            hakkiyolu_write_load(
+                start(register),
+                register.len(),
+                start(date),
+                date.len(),
+                start(name),
+                name.len(),
+                cycle,
+                start_mut(out),
+                out.len(),
+            )
+        }
+    }
+}
+
+/// "Slots looked at in bits 0-15, slot in 16-31, state in 32-35, refusal in
+/// 36-39; bits 40-63 are 0": were they not, the refusal would come out too large.
+pub fn unpack(packed: u64) -> Found {
+    Found {
+        refusal: (packed >> 36) as u32,
+        state: (packed >> 32) as u32 & 0xf,
+        slot: (packed >> 16) as u32 & 0xffff,
+        looked: packed as u32 & 0xffff,
+    }
+}
+
+#[cfg(test)]
+mod tests {
+    use super::*;
+
+    #[test]
+    fn the_packed_number_comes_apart() {
+        let found = Found {
+            refusal: 10,
+            state: 3,
+            slot: 4095,
+            looked: 4096,
+        };
+        assert_eq!(unpack(0x00a3_0fff_1000), found);
+    }
+}

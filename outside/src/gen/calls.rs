@@ -1,0 +1,98 @@
+//! Calls for the stores as they are.
+
+use super::{World, NAME};
+use crate::call::{Call, Op};
+use crate::model::date::{date_of, Day};
+use crate::model::layout::{EDGE, RECORD, REGISTER_SLOT};
+use crate::model::store::{is_live, slot_day};
+
+/// What an answers or out buffer holds before the call.
+const FILLER: u8 = 0xee;
+
+impl World {
+    /// A few records; many if the stores are large.
+    fn some_count(&mut self) -> usize {
+        let large = self.register.len().max(self.guide.len()) > 100 * REGISTER_SLOT;
+        if large && self.random.chance(50) {
+            self.random.pick(&[1500, 9999])
+        } else {
+            self.random.pick(&[0, 1, 1, 2, 3, 5, 8, 12, 20])
+        }
+    }
+
+    /// A take of a data file.
+    pub fn take_data(&mut self) -> Call {
+        let count = self.some_count();
+        let file = self.data_file(count);
+        let more = self.random.pick(&[0, 0, 1, 7]);
+        Call {
+            op: Op::TakeData,
+            given: self.last_data,
+            lent: vec![
+                self.register.clone(),
+                self.guide.clone(),
+                file,
+                vec![FILLER; count + more],
+            ],
+        }
+    }
+
+    /// A take of a guide file.
+    pub fn take_guide(&mut self) -> Call {
+        let count = self.some_count().min(4200);
+        let file = self.guide_file(count);
+        let more = self.random.pick(&[0, 0, 1, 7]);
+        Call {
+            op: Op::TakeGuide,
+            given: self.last_guide,
+            lent: vec![
+                self.register.clone(),
+                self.guide.clone(),
+                file,
+                vec![FILLER; count + more],
+            ],
+        }
+    }
+
+    /// A lookup of a number that may be there.
+    pub fn lookup(&mut self) -> Call {
+        let fresh = format!("503{:07}", self.random.below(self.numbers)).into_bytes();
+        let number = self.some_slot().map_or(fresh, |slot| slot.2.to_vec());
+        Call {
+            op: Op::Lookup,
+            given: 0,
+            lent: vec![self.register.clone(), number],
+        }
+    }
+
+    /// The writing of a load file: mostly on a day that allows it, with just
+    /// enough room, one byte too little, or more.
+    pub fn write_load(&mut self) -> Call {
+        let entries = || {
+            self.register
+                .chunks_exact(REGISTER_SLOT)
+                .filter(|slot| is_live(slot))
+        };
+        let count = entries().count();
+        let newest = entries().map(|slot| slot_day(slot).0).max().unwrap_or(0);
+        let day = match self.random.below(6) {
+            0 => newest.saturating_sub(1),
+            1 => newest,
+            _ => newest.max(self.today),
+        };
+        let need = 2 * EDGE + count * RECORD;
+        let room = self
+            .random
+            .pick(&[need, need, need + 1, need + 300, need - 1]);
+        Call {
+            op: Op::WriteLoad,
+            given: self.random.pick(&[1, 9, 10, 42, 99_999, 999_999]),
+            lent: vec![
+                self.register.clone(),
+                date_of(Day(day)).to_vec(),
+                NAME.to_vec(),
+                vec![FILLER; room],
+            ],
+        }
+    }
+}

@@ -1,0 +1,190 @@
+//! Runs of files from empty stores, seeded.
+//!
+//! The generator looks at the stores to make records that matter to them, so
+//! that every answer comes up often.
+
+mod calls;
+mod filing;
+
+use crate::call::Op;
+use crate::model::date::{date_of, Day, LAST_DAY};
+use crate::model::layout::{
+    header, record, trailer, Field, EDGE, GUIDE_SLOT, REGISTER_SLOT, SLOT_HEAD,
+};
+use crate::model::store::{slot_day, slot_number, slot_record, RESTING};
+use crate::random::Random;
+
+/// The company name of every file.
+pub const NAME: &[u8; 50] = b"RURAL TELEPHONE AND LINE                          ";
+/// Days of four years, one of them leap.
+const FOUR_YEARS: u32 = 1461;
+/// 022900.
+const LEAP_DAY: u32 = 59;
+
+/// Stores, their cycles and the pools that records are made from.
+pub struct World {
+    /// Where all choices come from.
+    pub random: Random,
+    /// The register.
+    pub register: Vec<u8>,
+    /// The guide.
+    pub guide: Vec<u8>,
+    /// The last cycle of data files.
+    pub last_data: u32,
+    /// The last cycle of guide files.
+    pub last_guide: u32,
+    today: u32,
+    numbers: usize,
+    streets: usize,
+    houses: u32,
+}
+
+/// Writes text at the left of a field, spaces after it.
+pub fn put(whole: &mut [u8], field: Field, text: &[u8]) {
+    let bytes = field.of_mut(whole);
+    bytes.fill(b' ');
+    bytes[..text.len()].copy_from_slice(text);
+}
+
+/// A file of these records or rows, whole.
+pub fn file(date: &[u8; 6], cycle: u32, records: &[u8], count: usize) -> Vec<u8> {
+    let mut file = vec![b' '; EDGE];
+    put(&mut file, header::MARK, b"UHL");
+    put(&mut file, header::DATE, date);
+    put(&mut file, header::NAME, NAME);
+    put(&mut file, header::CYCLE, cycle.to_string().as_bytes());
+    put(&mut file, header::STAR, b"*");
+    file.extend_from_slice(records);
+    let mut tail = vec![b' '; EDGE];
+    put(&mut tail, trailer::MARK, b"UTL");
+    put(&mut tail, trailer::DATE, date);
+    put(&mut tail, trailer::NAME, NAME);
+    put(&mut tail, trailer::COUNT, format!("{count:>9}").as_bytes());
+    put(&mut tail, trailer::STAR, b"*");
+    file.extend_from_slice(&tail);
+    file
+}
+
+/// The cycle after this one.
+pub fn next_cycle(last: u32) -> u32 {
+    if last == 999_999 {
+        1
+    } else {
+        last.wrapping_add(1)
+    }
+}
+
+impl World {
+    /// Empty stores of a size that the seed picks.
+    pub fn new(seed: u64) -> Self {
+        let mut random = Random::new(seed);
+        let large = random.below(400) == 0;
+        let sizes: &[usize] = if large {
+            &[4096]
+        } else {
+            &[1, 1, 2, 3, 5, 8, 64]
+        };
+        let (slots, rows) = (random.pick(sizes), random.pick(sizes));
+        let mut world = World::sized(random.bits(), slots, rows);
+        world.last_data = random.pick(&[0, 0, 0, 1, 999_997, 999_998, 999_999]);
+        world.last_guide = random.pick(&[0, 0, 0, 1, 999_997, 999_998, 999_999]);
+        world
+    }
+
+    /// Empty stores of this size.
+    pub fn sized(seed: u64, slots: usize, rows: usize) -> Self {
+        let mut random = Random::new(seed);
+        let today = match random.below(4) {
+            0 => random.between(0, 400),
+            1 => random.between(0, 24) * FOUR_YEARS + LEAP_DAY,
+            _ => random.between(0, LAST_DAY.0),
+        };
+        World {
+            register: vec![0; slots * REGISTER_SLOT],
+            guide: vec![0; rows * GUIDE_SLOT],
+            last_data: 0,
+            last_guide: 0,
+            today,
+            numbers: slots + slots / 4 + 2,
+            streets: if rows > 64 { 48 } else { 4 },
+            houses: if rows > 64 { 4000 } else { 40 },
+            random,
+        }
+    }
+
+    /// A used slot's state, day, number and company, if there is one.
+    fn some_slot(&mut self) -> Option<(u8, u32, [u8; 10], Vec<u8>)> {
+        let slots = self.register.len() / REGISTER_SLOT;
+        let at = self.random.below(slots) * REGISTER_SLOT;
+        let slot = &self.register[at..at + REGISTER_SLOT];
+        (slot[0] != 0).then(|| {
+            let number = slot_number(slot).try_into().expect("ten digits");
+            let company = record::COMPANY_ID.of(slot_record(slot)).to_vec();
+            (slot[0], slot_day(slot).0, number, company)
+        })
+    }
+
+    /// A present row, if there is one.
+    fn some_row(&mut self) -> Option<Vec<u8>> {
+        let rows = self.guide.len() / GUIDE_SLOT;
+        let at = self.random.below(rows) * GUIDE_SLOT;
+        let slot = &self.guide[at..at + GUIDE_SLOT];
+        (slot[0] != 0).then(|| slot[SLOT_HEAD..].to_vec())
+    }
+
+    /// Goes on to the day of the next file: often to one where a resting slot
+    /// just may or just may not be used again.
+    fn go_on(&mut self) {
+        let resting = self.some_slot().filter(|slot| slot.0 == RESTING);
+        let wanted = match resting {
+            Some((_, since, _, _)) if self.random.chance(40) => {
+                since + self.random.pick(&[89, 90, 90, 91])
+            }
+            _ => self.today + self.random.pick(&[0, 0, 1, 1, 2, 30, 90]),
+        };
+        self.today = match self.random.below(60) {
+            0 => self.random.between(0, 24) * FOUR_YEARS + LEAP_DAY,
+            1 => self.random.between(0, LAST_DAY.0),
+            _ => wanted.min(LAST_DAY.0),
+        };
+    }
+
+    /// A data file of n records for the stores as they are.
+    pub fn data_file(&mut self, count: usize) -> Vec<u8> {
+        self.go_on();
+        let records: Vec<u8> = (0..count).flat_map(|_| self.record()).collect();
+        file(
+            &date_of(Day(self.today)),
+            next_cycle(self.last_data),
+            &records,
+            count,
+        )
+    }
+
+    /// A guide file of n rows for the stores as they are.
+    pub fn guide_file(&mut self, count: usize) -> Vec<u8> {
+        let rows: Vec<u8> = (0..count).flat_map(|_| self.row()).collect();
+        file(
+            &date_of(Day(self.today)),
+            next_cycle(self.last_guide),
+            &rows,
+            count,
+        )
+    }
+
+    /// Takes over what an accepted or refused take left.
+    pub fn adopt(&mut self, op: Op, returned: &[u32], lent: &[Vec<u8>]) {
+        let last = returned.last().copied().unwrap_or(0);
+        match op {
+            Op::TakeData => {
+                self.register.clone_from(&lent[0]);
+                self.last_data = last;
+            }
+            Op::TakeGuide => {
+                self.guide.clone_from(&lent[1]);
+                self.last_guide = last;
+            }
+            Op::Lookup | Op::WriteLoad => {}
+        }
+    }
+}

@@ -1,0 +1,20 @@
+//! Hakkiyolu seen from outside: an independent model of the description, a safe
+//! face of the compiled libraries, and what compares the two.
+
+pub mod arguments;
+pub mod call;
+pub mod coverage;
+pub mod damage;
+pub mod demands;
+pub mod deskgen;
+pub mod edges;
+pub mod explore;
+pub mod face;
+pub mod gen;
+pub mod lent;
+pub mod model;
+pub mod random;
+pub mod shrink;
+pub mod subject;
+pub mod town;
+pub mod vectors;

@@ -1,0 +1,264 @@
+//! The document's cases on both sides, P1 to P10 among them, and the readings.
+
+use super::date::{day, follows, Cycle, Day};
+use super::desk::desk;
+use super::form::{record_fault, row_fault};
+use super::guide::clash;
+use super::layout::{record, row, Field, GUIDE_SLOT, RECORD, REGISTER_SLOT, ROW, SLOT_HEAD};
+use super::rules::Described;
+use super::{lookup, take_data, take_guide, write_load, Found, Loaded, Taken};
+use crate::gen::{file, put, NAME};
+
+fn day_of(date: &[u8; 6]) -> Option<u32> {
+    day::<Described>(date).map(|Day(number)| number)
+}
+
+fn a_row(parity: &str, low: &str, high: &str) -> [u8; ROW] {
+    let mut whole = [b' '; ROW];
+    let texts = [
+        (row::STREET, "MAIN"),
+        (row::SUFFIX, "ST"),
+        (row::LOW, low),
+        (row::HIGH, high),
+        (row::COMMUNITY, "SALEM"),
+        (row::STATE, "OR"),
+        (row::PARITY, parity),
+        (row::ESN, "83"),
+        (row::FUNCTION, "I"),
+        (row::STAR, "*"),
+    ];
+    for (field, text) in texts {
+        put(&mut whole, field, text.as_bytes());
+    }
+    whole
+}
+
+fn a_record(changes: &[(Field, &str)]) -> [u8; RECORD] {
+    let mut whole = [b' '; RECORD];
+    let texts = [
+        (record::FUNCTION, "I"),
+        (record::NPA, "503"),
+        (record::CALLING_NUMBER, "5550100"),
+        (record::HOUSE, "100"),
+        (record::STREET, "MAIN"),
+        (record::SUFFIX, "ST"),
+        (record::COMMUNITY, "SALEM"),
+        (record::STATE, "OR"),
+        (record::CLASS, "1"),
+        (record::TYPE, "0"),
+        (record::DATE, "010100"),
+        (record::COMPANY_ID, "ABC"),
+        (record::STAR, "*"),
+    ];
+    for (field, text) in texts.iter().chain(changes) {
+        put(&mut whole, *field, text.as_bytes());
+    }
+    whole
+}
+
+fn a_guide() -> Vec<u8> {
+    let mut guide = vec![0; GUIDE_SLOT];
+    guide[0] = 1;
+    guide[SLOT_HEAD..].copy_from_slice(&a_row("B", "0", "999"));
+    guide
+}
+
+/// Takes the records as one file of this date; the answers.
+fn answers(register: &mut [u8], date: &[u8; 6], records: &[[u8; RECORD]]) -> Vec<u8> {
+    let mut answers = vec![0xee; records.len()];
+    let all = file(date, 1, &records.concat(), records.len());
+    let taken = take_data::<Described>(register, &a_guide(), &all, &mut answers, 0);
+    assert_eq!(taken.refusal, 0);
+    answers
+}
+
+/// The answer to one record on an empty register of one slot.
+fn fault(changes: &[(Field, &str)]) -> Option<usize> {
+    record_fault::<Described>(&a_record(changes))
+}
+
+#[test]
+fn dates_p1_to_p4() {
+    assert_eq!(day_of(b"010100"), Some(0));
+    assert_eq!(day_of(b"022900"), Some(59));
+    assert_eq!(day_of(b"022901"), None);
+    assert_eq!(day_of(b"123199"), Some(36524));
+}
+
+#[test]
+fn every_day_has_one_date() {
+    for number in 0..=36524 {
+        let date = super::date::date_of(Day(number));
+        assert_eq!(day_of(&date), Some(number));
+    }
+}
+
+#[test]
+fn clashes_p5_to_p7() {
+    let meet = |one: [u8; ROW], other: [u8; ROW]| {
+        let both = clash::<Described>(&one, &other);
+        assert_eq!(both, clash::<Described>(&other, &one));
+        both
+    };
+    assert!(!meet(a_row("B", "300", "300"), a_row("O", "201", "399")));
+    assert!(meet(a_row("B", "100", "200"), a_row("O", "51", "101")));
+    assert!(!meet(a_row("E", "100", "198"), a_row("O", "101", "199")));
+}
+
+#[test]
+fn clash_is_what_house_by_house_says() {
+    let rows: Vec<[u8; ROW]> = (0..6)
+        .flat_map(|low| (low..6).map(move |high| (low, high)))
+        .flat_map(|(low, high)| ["O", "E", "B"].map(|parity| (parity, low, high)))
+        .map(|(parity, low, high)| a_row(parity, &low.to_string(), &high.to_string()))
+        .filter(|whole| row_fault::<Described>(whole).is_none())
+        .collect();
+    let has = |whole: &[u8; ROW], house: u32| {
+        let address = a_record(&[(record::HOUSE, &house.to_string())]);
+        super::guide::Address::of(&address).is_under(whole)
+    };
+    for one in &rows {
+        for other in &rows {
+            let shared = (0..8).any(|house| has(one, house) && has(other, house));
+            assert_eq!(clash::<Described>(one, other), shared);
+        }
+    }
+}
+
+#[test]
+fn a_resting_slot_is_free_for_others_after_90_days_p8_p9() {
+    let mut resting = vec![0; REGISTER_SLOT];
+    // Day 100 is 041000, day 189 is 070800, day 190 is 070900.
+    assert_eq!(day_of(b"041000"), Some(100));
+    let delete = a_record(&[(record::FUNCTION, "D"), (record::DATE, "041000")]);
+    assert_eq!(
+        answers(&mut resting, b"041000", &[a_record(&[]), delete]),
+        [0, 0]
+    );
+    let other = a_record(&[(record::CALLING_NUMBER, "5550199")]);
+    assert_eq!(day_of(b"070900"), Some(190));
+    assert_eq!(answers(&mut resting.clone(), b"070900", &[other]), [0]);
+    assert_eq!(answers(&mut resting, b"070800", &[other]), [20]);
+}
+
+#[test]
+fn cycles_p10() {
+    assert!(follows::<Described>(Cycle(1), 999_999));
+    assert!(follows::<Described>(Cycle(1), 0));
+    assert!(!follows::<Described>(Cycle(1), 1_000_000));
+    assert!(!follows::<Described>(Cycle(1), u32::MAX));
+}
+
+#[test]
+fn house_numbers_and_esns() {
+    assert_eq!(fault(&[(record::HOUSE, "12345678")]), None);
+    assert_eq!(fault(&[(record::HOUSE, "123456789")]), Some(12));
+    assert_eq!(fault(&[(record::HOUSE, "1 1")]), Some(12));
+    assert_eq!(fault(&[(record::COMPANY_ID, "A B")]), Some(261));
+    assert_eq!(fault(&[(record::MAIN_NUMBER, "ABC")]), None);
+    assert_eq!(fault(&[(record::NPA, "50\x7f")]), Some(2));
+    let mut register = vec![0; REGISTER_SLOT];
+    let esn = |text| a_record(&[(record::ESN, text)]);
+    assert_eq!(
+        answers(&mut register, b"010100", &[esn("083"), esn("83")]),
+        [19, 0]
+    );
+}
+
+#[test]
+fn rows_of_bad_form() {
+    let fault = |parity, low, high| row_fault::<Described>(&a_row(parity, low, high));
+    assert_eq!(fault("B", "", "9"), Some(69));
+    assert_eq!(fault("B", "9", "8"), Some(79));
+    assert_eq!(fault("B", "9", "x"), Some(79));
+    assert_eq!(fault("O", "9", "10"), Some(123));
+    assert_eq!(fault("E", "9", "10"), Some(123));
+    assert_eq!(fault("B", "009", "9"), None);
+}
+
+#[test]
+fn the_incident_an_old_company_changes_a_passed_number() {
+    let with = |code, company| a_record(&[(record::FUNCTION, code), (record::COMPANY_ID, company)]);
+    let run = [
+        with("I", "OLD"),
+        with("U", "OLD"),
+        with("M", "NEW"),
+        with("C", "OLD"),
+    ];
+    let mut register = vec![0; REGISTER_SLOT];
+    assert_eq!(answers(&mut register, b"010100", &run), [0, 0, 0, 16]);
+    assert_eq!(record::COMPANY_ID.of(&register[SLOT_HEAD..]), b"NEW  ");
+}
+
+#[test]
+fn a_row_that_only_an_open_number_uses_stays() {
+    let mut register = vec![0; REGISTER_SLOT];
+    let unlock = a_record(&[(record::FUNCTION, "U")]);
+    assert_eq!(
+        answers(&mut register, b"010100", &[a_record(&[]), unlock]),
+        [0, 0]
+    );
+    let mut delete = a_row("B", "0", "999");
+    put(&mut delete, row::FUNCTION, b"D");
+    let (mut guide, mut answers) = (a_guide(), [0xee; 2]);
+    let all = file(b"010100", 1, &delete, 1);
+    let taken = take_guide::<Described>(&register, &mut guide, &all, &mut answers, 0);
+    assert_eq!((taken.done, taken.undone, taken.last), (0, 1, 1));
+    assert_eq!((answers, guide), ([24, 0xee], a_guide()));
+}
+
+#[test]
+fn a_fault_in_the_last_record_leaves_everything() {
+    let records = [a_record(&[]), a_record(&[(record::STAR, " ")])].concat();
+    let (mut register, mut answers) = (vec![0; REGISTER_SLOT], [0xee; 2]);
+    let all = file(b"010100", 1, &records, 2);
+    let taken = take_data::<Described>(&mut register, &a_guide(), &all, &mut answers, 0);
+    let expected = Taken {
+        refusal: 9,
+        place: 2,
+        position: 512,
+        ..Taken::default()
+    };
+    assert_eq!((taken, answers), (expected, [0xee; 2]));
+    assert_eq!(register, vec![0; REGISTER_SLOT]);
+}
+
+#[test]
+fn lookup_and_load_file() {
+    let mut register = vec![0; 2 * REGISTER_SLOT];
+    assert_eq!(answers(&mut register, b"010100", &[a_record(&[])]), [0]);
+    let found = |refusal, state, slot, looked| Found {
+        refusal,
+        state,
+        slot,
+        looked,
+    };
+    assert_eq!(lookup(&register, b"5035550100"), found(0, 1, 0, 1));
+    assert_eq!(lookup(&register, b"5035550199"), found(0, 0, 0, 2));
+    assert_eq!(lookup(&register, b"503555010"), found(10, 0, 0, 0));
+    assert_eq!(lookup(&register[1..], b"5035550100"), found(1, 0, 0, 0));
+    let mut out = [0xee; 913];
+    let loaded = write_load::<Described>(&register, b"010100", NAME, 7, &mut out);
+    let (bytes, entries) = (912, 1);
+    assert_eq!(
+        loaded,
+        Loaded {
+            refusal: 0,
+            bytes,
+            entries
+        }
+    );
+    let filed = a_record(&[(record::SOURCE, "C"), (record::ESN, "83")]);
+    assert_eq!(out[..912], file(b"010100", 7, &filed, 1));
+    assert_eq!(out[912], 0xee);
+    let refusal = |cycle, room: usize| {
+        write_load::<Described>(&register, b"010100", NAME, cycle, &mut [0; 912][..room]).refusal
+    };
+    assert_eq!([refusal(1, 911), refusal(0, 911)], [25, 26]);
+}
+
+#[test]
+fn the_desk_example() {
+    let printed = desk(b"02\n0435303335353530313030\n");
+    assert_eq!(printed, b"a20300000000\na3000040\n");
+}

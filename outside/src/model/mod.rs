@@ -1,0 +1,25 @@
+//! The description as plain, safe Rust, without indexes or copies: it says what
+//! is right, and it is the speed that the product is measured against.
+
+pub mod apply;
+pub mod date;
+pub mod desk;
+pub mod file;
+pub mod form;
+pub mod guide;
+pub mod layout;
+pub mod load;
+pub mod lookup;
+pub mod results;
+pub mod rules;
+pub mod store;
+pub mod take;
+
+#[cfg(test)]
+mod cases;
+
+pub use load::write_load;
+pub use lookup::lookup;
+pub use results::{Found, Loaded, Taken};
+pub use rules::{Described, Rules};
+pub use take::{take_data, take_guide};

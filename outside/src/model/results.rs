@@ -1,0 +1,46 @@
+//! What the four functions give back.
+
+/// The answer to a take.
+#[repr(C)]
+#[derive(Clone, Copy, Debug, Default, PartialEq, Eq)]
+pub struct Taken {
+    /// The refusal's number, 0 if none.
+    pub refusal: u32,
+    /// First bad record from 1, only in refusal 9.
+    pub place: u32,
+    /// First byte of its first bad field, only in refusal 9.
+    pub position: u32,
+    /// Records applied.
+    pub records: u32,
+    /// Answers that are 0.
+    pub done: u32,
+    /// Answers that are not.
+    pub undone: u32,
+    /// The last cycle afterwards.
+    pub last: u32,
+}
+
+/// The answer to the writing of a load file.
+#[repr(C)]
+#[derive(Clone, Copy, Debug, Default, PartialEq, Eq)]
+pub struct Loaded {
+    /// The refusal's number, 0 if none.
+    pub refusal: u32,
+    /// Bytes written.
+    pub bytes: u32,
+    /// Entries written.
+    pub entries: u32,
+}
+
+/// The answer to a lookup.
+#[derive(Clone, Copy, Debug, Default, PartialEq, Eq)]
+pub struct Found {
+    /// The refusal's number, 0 if none.
+    pub refusal: u32,
+    /// The slot's state, 0 if absent.
+    pub state: u32,
+    /// The slot from 0, 0 if absent.
+    pub slot: u32,
+    /// Slots looked at.
+    pub looked: u32,
+}

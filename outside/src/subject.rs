@@ -1,0 +1,95 @@
+//! What is compared: the model under some rules, or the compiled library.
+
+use crate::model::{self, Found, Loaded, Rules, Taken};
+use std::marker::PhantomData;
+
+/// The four functions.
+pub trait Subject {
+    /// Takes a data file.
+    fn take_data(
+        &self,
+        register: &mut [u8],
+        guide: &[u8],
+        file: &[u8],
+        answers: &mut [u8],
+        last: u32,
+    ) -> Taken;
+
+    /// Takes a guide file.
+    fn take_guide(
+        &self,
+        register: &[u8],
+        guide: &mut [u8],
+        file: &[u8],
+        answers: &mut [u8],
+        last: u32,
+    ) -> Taken;
+
+    /// Looks a number up.
+    fn lookup(&self, register: &[u8], number: &[u8]) -> Found;
+
+    /// Writes a load file.
+    fn write_load(
+        &self,
+        register: &[u8],
+        date: &[u8],
+        name: &[u8],
+        cycle: u32,
+        out: &mut [u8],
+    ) -> Loaded;
+}
+
+/// The model under these rules.
+pub struct Model<R>(PhantomData<R>);
+
+impl<R> Model<R> {
+    /// The model.
+    pub const fn new() -> Self {
+        Model(PhantomData)
+    }
+}
+
+impl<R> Default for Model<R> {
+    fn default() -> Self {
+        Self::new()
+    }
+}
+
+impl<R: Rules> Subject for Model<R> {
+    fn take_data(
+        &self,
+        register: &mut [u8],
+        guide: &[u8],
+        file: &[u8],
+        answers: &mut [u8],
+        last: u32,
+    ) -> Taken {
+        model::take_data::<R>(register, guide, file, answers, last)
+    }
+
+    fn take_guide(
+        &self,
+        register: &[u8],
+        guide: &mut [u8],
+        file: &[u8],
+        answers: &mut [u8],
+        last: u32,
+    ) -> Taken {
+        model::take_guide::<R>(register, guide, file, answers, last)
+    }
+
+    fn lookup(&self, register: &[u8], number: &[u8]) -> Found {
+        model::lookup(register, number)
+    }
+
+    fn write_load(
+        &self,
+        register: &[u8],
+        date: &[u8],
+        name: &[u8],
+        cycle: u32,
+        out: &mut [u8],
+    ) -> Loaded {
+        model::write_load::<R>(register, date, name, cycle, out)
+    }
+}

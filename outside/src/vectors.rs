@@ -1,0 +1,140 @@
+//! Reading and writing calls as lines:
+//! `OP inputs -> results # kind of case`, bytes in hexadecimal with `(HEX*N)`.
+
+use crate::call::{Call, Op, Outcome};
+use crate::model::desk::{from_hex, put_hex};
+use std::collections::HashMap;
+
+/// A line of a calls file.
+pub struct Vector {
+    /// The call.
+    pub call: Call,
+    /// What must come of it.
+    pub expected: Outcome,
+    /// The kind of case.
+    pub kind: String,
+}
+
+/// Reads one line.
+pub fn parse(line: &str) -> Option<Vector> {
+    let (line, kind) = line.split_once(" # ").unwrap_or((line, ""));
+    let (inputs, results) = line.split_once(" ->")?;
+    let (name, inputs) = inputs.split_once(' ')?;
+    let op = Op::ALL.into_iter().find(|op| op.name() == name)?;
+    let (inputs, results) = (words(inputs)?, words(results)?);
+    let lent = op.lent().iter().map(|name| bytes(inputs.get(name)?));
+    let lent: Vec<Vec<u8>> = lent.collect::<Option<_>>()?;
+    let after = op.lent().iter().zip(&lent).map(|(name, before)| {
+        match results.get(name).copied() {
+            // A buffer that is not named is one the call may not write.
+            None | Some("same") => Some(before.clone()),
+            Some(text) => bytes(text),
+        }
+    });
+    let returned = op
+        .returned()
+        .iter()
+        .map(|name| results.get(name)?.parse().ok());
+    let expected = Outcome {
+        returned: returned.collect::<Option<_>>()?,
+        lent: after.collect::<Option<_>>()?,
+        intact: true,
+    };
+    let given = match op.given() {
+        "" => 0,
+        name => inputs.get(name)?.parse().ok()?,
+    };
+    Some(Vector {
+        call: Call { op, given, lent },
+        expected,
+        kind: kind.to_string(),
+    })
+}
+
+fn words(text: &str) -> Option<HashMap<&str, &str>> {
+    text.split_whitespace()
+        .map(|word| word.split_once('='))
+        .collect()
+}
+
+/// The bytes of hexadecimal with groups.
+fn bytes(mut text: &str) -> Option<Vec<u8>> {
+    let mut all = Vec::new();
+    while let Some((plain, rest)) = text.split_once('(') {
+        let (group, rest) = rest.split_once(')')?;
+        let (part, times) = group.split_once('*')?;
+        all.extend(from_hex(plain.as_bytes())?);
+        all.extend(from_hex(part.as_bytes())?.repeat(times.parse().ok()?));
+        text = rest;
+    }
+    all.extend(from_hex(text.as_bytes())?);
+    Some(all)
+}
+
+/// A call and its outcome as one line, to show a difference.
+pub fn line(call: &Call, outcome: &Outcome, kind: &str) -> String {
+    let mut text = call.op.name().to_string();
+    if !call.op.given().is_empty() {
+        text += &format!(" {}={}", call.op.given(), call.given);
+    }
+    for (name, bytes) in call.op.lent().iter().zip(&call.lent) {
+        text += &format!(" {name}={}", hex(bytes));
+    }
+    text += " ->";
+    for (name, number) in call.op.returned().iter().zip(&outcome.returned) {
+        text += &format!(" {name}={number}");
+    }
+    let buffers = call.lent.iter().zip(&outcome.lent);
+    for (name, (before, after)) in call.op.lent().iter().zip(buffers) {
+        let after = if before == after {
+            "same".to_string()
+        } else {
+            hex(after)
+        };
+        text += &format!(" {name}={after}");
+    }
+    text + " # " + kind
+}
+
+/// Hexadecimal, runs of a byte as groups.
+fn hex(bytes: &[u8]) -> String {
+    /// Shorter runs are as short when written out.
+    const RUN: usize = 5;
+    let mut text = Vec::new();
+    for run in bytes.chunk_by(|one, other| one == other) {
+        if run.len() < RUN {
+            run.iter().for_each(|&byte| put_hex(&mut text, byte));
+        } else {
+            text.push(b'(');
+            put_hex(&mut text, run[0]);
+            text.extend(format!("*{})", run.len()).bytes());
+        }
+    }
+    String::from_utf8(text).expect("hexadecimal")
+}
+
+#[cfg(test)]
+mod tests {
+    use super::*;
+    use crate::gen::World;
+    use crate::model::Described;
+    use crate::subject::Model;
+
+    #[test]
+    fn a_written_line_reads_back() {
+        let mut world = World::new(3);
+        let calls = [
+            world.take_guide(),
+            world.take_data(),
+            world.lookup(),
+            world.write_load(),
+        ];
+        for call in calls {
+            let outcome = call.run(&Model::<Described>::new(), 0);
+            let read = parse(&line(&call, &outcome, "kind")).expect("a line");
+            assert_eq!(read.call.lent, call.lent);
+            assert_eq!((read.expected, read.call.given), (outcome, call.given));
+            assert_eq!(read.kind, "kind");
+        }
+    }
+}
