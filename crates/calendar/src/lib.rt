@@ -87,13 +87,13 @@ pub fn day_in(f: &[u8]) -> Date
     if f.len() != 6 {
         return Date::NoDate;
     }
-    let Spelled::Number(m) = text::number_in(&f[0..2], 2, 2) else {
+    let Spelled::Number(m) = text::two_digits(f[0], f[1]) else {
         return Date::NoDate;
     };
-    let Spelled::Number(d) = text::number_in(&f[2..4], 2, 2) else {
+    let Spelled::Number(d) = text::two_digits(f[2], f[3]) else {
         return Date::NoDate;
     };
-    let Spelled::Number(y) = text::number_in(&f[4..6], 2, 2) else {
+    let Spelled::Number(y) = text::two_digits(f[4], f[5]) else {
         return Date::NoDate;
     };
     day_from(m, d, y)

@@ -1,16 +1,19 @@
 -- Turns of the loops that walk a list two and three numbers at a time: the pairs of letters, and the fields of a table.
 -- Assumes nothing.
 use mathlib.Core.Path.{_≡_, _∙_, refl, sym, ap}
-use mathlib.Core.Bool.{Bool, true, false, _&&_, _||_}
+use mathlib.Core.Bool.{Bool, true, false, not, cond, _&&_, _||_}
 use mathlib.Core.List.{List, [], _∷_}
-use Prim.Native.Nat.{ℕ, _+_, _≤_, _<_}
+use Prim.Native.Nat.{ℕ, _+_, _-_, _≤_, _<_}
 use native.Mathlib.Omega.{arith}
 use lib.Dec.{eqb}
-use lib.ListN.{length, drop, getD, length-drop}
-use borrow.Author.Tests.{eq-eqb, ne-eqb}
-use Rattle.text.specs.Text.{part}
-use Rattle.text.proofs.Laws.{left-at}
-use Rattle.layout.specs.Rules.{pairIn, fromZero, faultBy, faultIn, orElse}
+use lib.ListN.{length, drop, getD, length-take, length-drop}
+use borrow.Author.Tests.{eqb-true, eq-eqb, ne-eqb}
+use Rattle.text.specs.declared.Class.the-variants.{Printable, Space}
+use Rattle.text.specs.Text.{allIn, blank, runOf, part}
+use Rattle.text.proofs.Laws.{left-at, and-left, and-right}
+use Rattle.text.proofs.PartLaws.{all-part, no-spaces-at}
+use Rattle.layout.specs.Tables.{house, lowEnd, highEnd, parityLetter}
+use Rattle.layout.specs.Rules.{leftJustified, neededIn, pairIn, keeps, keepsOther, keepsFrame, fromZero, isWhole, faultBy, faultIn, orElse}
 
 two-at : (s : List ℕ) (i : ℕ) → i + 1 < length s → drop i s ≡ getD s i 0 ∷ getD s (i + 1) 0 ∷ drop (i + 2) s
 two-at s i h =
@@ -61,6 +64,14 @@ module _ (lax : Bool) (s t : List ℕ) (i f : ℕ) {v : ℕ} (inv : faultIn lax 
   pub fault-here : (f ≡ 0 → ⊥) → f ≡ v
   fault-here z = rw (ne-eqb f 0 z) at fault-at
 
+-- a field that is known to pass
+pub fault-passed : (lax : Bool) (s t : List ℕ) (i : ℕ) {v : ℕ} → faultIn lax s (drop i t) ≡ v → i + 2 < length t
+    → faultBy (getD t i 0) (getD t (i + 1) 0) (getD t (i + 2) 0) lax s (part (fromZero (getD t i 0)) (getD t (i + 1) 0) s) ≡ 0
+    → faultIn lax s (drop (i + 3) t) ≡ v
+fault-passed lax s t i inv h z =
+    let f = faultBy (getD t i 0) (getD t (i + 1) 0) (getD t (i + 2) 0) lax s (part (fromZero (getD t i 0)) (getD t (i + 1) 0) s) in
+    fault-later lax s t i f inv h refl z
+
 fault-short : (lax : Bool) (s t : List ℕ) → length t ≤ 2 → faultIn lax s t ≡ 0
 unfolding faultIn
 fault-short lax s [] h = refl
@@ -70,3 +81,61 @@ fault-short lax s (p ∷ q ∷ r ∷ t) h = absurd (omega arith)
 
 pub fault-none : (lax : Bool) (s t : List ℕ) (i : ℕ) {v : ℕ} → faultIn lax s (drop i t) ≡ v → length t ≤ i + 2 → 0 ≡ v
 fault-none lax s t i inv h = sym (fault-short lax s (drop i t) (simp length-drop (omega arith))) ∙ inv
+
+-- ---- a field that is whole
+
+pub whole-long : (n : ℕ) (f : List ℕ) → isWhole n f ≡ true → length f ≡ n
+unfolding isWhole
+whole-long n f h = eqb-true (length f) n (and-left (eqb (length f) n) (allIn Printable f) h)
+
+pub whole-clean : (n : ℕ) (f : List ℕ) → isWhole n f ≡ true → allIn Printable f ≡ true
+unfolding isWhole
+whole-clean n f h = and-right (eqb (length f) n) (allIn Printable f) h
+
+-- as one is that lies in the line
+pub part-long : (s : List ℕ) (i n : ℕ) → i ≤ length s → n ≤ length s - i → length (part i n s) ≡ n
+part-long s i n a b = simp (length-take, length-drop) (omega arith)
+
+pub part-whole : (s : List ℕ) (i n : ℕ) → i ≤ length s → n ≤ length s - i → allIn Printable s ≡ true → isWhole n (part i n s) ≡ true
+unfolding isWhole
+part-whole s i n a b h = rw (part-long s i n a b, eq-eqb n n refl, all-part Printable i n s h)
+
+-- one of two tests is enough
+pub or-right : (a b : Bool) → b ≡ true → (a || b) ≡ true
+or-right true b h = refl
+or-right false b h = h
+
+-- a test that is false is not true
+pub never : {A : Type 0} → false ≡ true → A
+never e = let z : _≡_ {A = ℕ} 0 1 = cc in absurd (omega arith)
+
+-- ---- a rule that is kept
+
+-- a whole field that keeps its rule has no fault: the rules of numbers, which have their own, are kept by nothing
+module _ (at n r : ℕ) (lax : Bool) (s f : List ℕ) (k : keeps r lax f ≡ true) where
+  not-number : (h : ℕ) → keeps h lax f ≡ false → eqb r h ≡ false
+  not-number h e = go (eqb r h) refl
+    where
+      go : (v : Bool) → eqb r h ≡ v → v ≡ false
+      go true q = sym k ∙ ap (λ x. keeps x lax f) (eqb-true r h q) ∙ e
+      go false q = refl
+
+  pub kept-passes : isWhole n f ≡ true → faultBy at n r lax s f ≡ 0
+  unfolding faultBy keeps keepsOther keepsFrame
+  kept-passes w = rw (w, not-number house refl, not-number lowEnd refl, not-number highEnd refl, not-number parityLetter refl, k)
+
+-- a field of one byte is that byte
+pub alone : (f : List ℕ) {b : ℕ} → length f ≡ 1 → b ≡ getD f 0 0 → f ≡ b ∷ []
+alone [] h e = absurd (omega arith)
+alone (a ∷ []) h e = ap (λ x. x ∷ []) (sym e)
+alone (a ∷ c ∷ f) h e = absurd (omega arith)
+
+-- text that is there is left-justified, and is what a rule needs
+no-space : (b : ℕ) → not (eqb b 32) ≡ true → b ≡ 32 → ⊥
+no-space b h e = never (rw (eq-eqb b 32 e) at h)
+
+pub text-there : (f : List ℕ) {b : ℕ} → b ≡ getD f 0 0 → not (eqb b 32) ≡ true → leftJustified f ≡ true
+text-there f {b} e h = rw (no-spaces-at f e (no-space b h))
+
+pub need-there : (lax : Bool) (f : List ℕ) {b : ℕ} → b ≡ getD f 0 0 → not (eqb b 32) ≡ true → neededIn lax f ≡ true
+need-there lax f {b} e h = rw (no-spaces-at f e (no-space b h))

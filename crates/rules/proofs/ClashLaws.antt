@@ -20,7 +20,7 @@ use Rattle.rules.proofs.WalkLaws.{decided, clash-bool, or-left, or-righ
 -- ---- numbers in two ranges
 
 -- a parity allows all numbers that are odd or even alike
-allows-alike : (p m n : ℕ) → m % 2 ≡ n % 2 → allows p m ≡ allows p n
+pub allows-alike : (p m n : ℕ) → m % 2 ≡ n % 2 → allows p m ≡ allows p n
 unfolding allows
 allows-alike p m n e = rw e
 
@@ -29,7 +29,7 @@ both-of : (p q high n : ℕ) → n ≤ high → allows p n ≡ true → allows q
 both-of p q high n h a b = rw (le-leb n high h, a, b)
 
 -- where a number from low to high is of both parities, low is one, or low + 1
-near : (p q low high n : ℕ) → low ≤ n → n ≤ high → allows p n ≡ true → allows q n ≡ true → meetFrom p q high low ≡ true
+pub near : (p q low high n : ℕ) → low ≤ n → n ≤ high → allows p n ≡ true → allows q n ≡ true → meetFrom p q high low ≡ true
 unfolding meetFrom
 near p q low high n h k a b = go (ℕ-discrete (low % 2) (n % 2))
   where

@@ -1,27 +1,26 @@
 // Whether a row covers an address, and whether two rows clash or are the same. The cheap tests come first.
 ghost use mathlib.Core.Path.{_≡_};
 ghost use Prim.Native.Nat.{min, max};
+ghost use Rattle.layout.specs.Fields.{parityOf};
 ghost use Rattle.rules.specs.Covers.{hits, covers, sameStreet, bothAllow, meetFrom, meets, clash, equalNumbers, sameRow};
 use layout::field;
 use text::Spelled;
 
-// Whether a house number lies in the row's range and is of its parity.
+// Whether a house number lies in the row's range and is of its parity. The parity is one byte, and tells the rows of the
+// other side of a street before an end is read.
 pub fn is_hit(row: &[u8], n: u32) -> bool
     ensures { λ r. ⌜ r ≡ hits (now (row .entry)) n ⌝ }
 {
-    let Spelled::Number(low) = field::low(row) else {
-        return false;
-    };
-    let Spelled::Number(high) = field::high(row) else {
-        return false;
-    };
-    if n < low {
-        return false;
+    if field::allowed(field::parity(row), n) {
+        let Spelled::Number(low) = field::low(row) else {
+            return false;
+        };
+        let Spelled::Number(high) = field::high(row) else {
+            return false;
+        };
+        return (low <= n) & (n <= high);
     }
-    if high < n {
-        return false;
-    }
-    field::allowed(field::parity(row), n)
+    false
 }
 
 // Whether a row covers the address of a record.
@@ -89,17 +88,21 @@ fn meet_from(p: u8, q: u8, high: u32, n: u32) -> bool
     false
 }
 
-// Whether some house number is in both ranges and of both parities.
+// Whether some house number is in both ranges and of both parities. Rows mostly come in the order of their numbers: that g
+// ends before h begins is asked first, and then two ends of the four are not read.
 fn do_meet(g: &[u8], h: &[u8]) -> bool
     ensures { λ r. ⌜ r ≡ meets (now (g .entry)) (now (h .entry)) ⌝ }
 {
-    let Spelled::Number(a) = field::low(g) else {
-        return false;
-    };
     let Spelled::Number(b) = field::high(g) else {
         return false;
     };
     let Spelled::Number(c) = field::low(h) else {
+        return false;
+    };
+    if b < c {
+        return false;
+    }
+    let Spelled::Number(a) = field::low(g) else {
         return false;
     };
     let Spelled::Number(d) = field::high(h) else {
@@ -113,12 +116,21 @@ fn do_meet(g: &[u8], h: &[u8]) -> bool
     )
 }
 
+// Whether some number is of both parities: if one is, 0 or 1 is. Two sides of a street are told apart before an end is read.
+fn may_meet(g: &[u8], h: &[u8]) -> bool
+    ensures { λ r. ⌜ r ≡ meetFrom (parityOf (now (g .entry))) (parityOf (now (h .entry))) 1 0 ⌝ }
+{
+    meet_from(field::parity(g), field::parity(h), 1, 0)
+}
+
 // Whether some house number is covered by both rows.
 pub fn do_clash(g: &[u8], h: &[u8]) -> bool
     ensures { λ r. ⌜ r ≡ clash (now (g .entry)) (now (h .entry)) ⌝ }
 {
     if is_same_street(g, h) {
-        return do_meet(g, h);
+        if may_meet(g, h) {
+            return do_meet(g, h);
+        }
     }
     false
 }

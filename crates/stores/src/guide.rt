@@ -1,11 +1,15 @@
 // The guide's slots of 208 bytes: what is read from one, the walks over them, and the one place that writes one.
 ghost use mathlib.Core.Path.{_≡_};
+ghost use mathlib.Core.Bool.{false};
+ghost use Prim.Native.Nat.{_≤_};
 ghost use lib.ListN.{length, replicate};
 ghost use Rattle.rules.specs.Walks.{sought};
 ghost use Rattle.rules.specs.Slots.{rowSlots, isPresent, isVacant, rowOf, rowWritten};
 ghost use Rattle.rules.specs.Records.{coversBy, isOver};
 ghost use Rattle.rules.specs.Rows.{clashesBy, clashAt, vacantAt, isSameBy, sameAt};
+ghost use Rattle.stores.specs.Streets.{isOn, Elsewhere};
 use crate::cover;
+use layout::field;
 use rules::Found;
 use rules::Sought;
 
@@ -34,6 +38,41 @@ pub fn row(slot: &[u8]) -> &[u8]
     text::part_of(slot, ROW_AT, ROW_SIZE)
 }
 
+// Whether the row in a slot may be of a street: the first sixteen bytes, two words, nearly always tell two streets apart.
+fn may_be_on(slot: &[u8], street: &[u8]) -> bool
+    ensures { λ r. ⌜ (r ≡ false → isOn (now (street .entry)) (now (slot .entry)) ≡ false) ⌝ }
+{
+    let own = field::row_street(row(slot));
+    if 16 <= own.len() {
+        if 16 <= street.len() {
+            if text::are_eight_same(own, street, 0) {
+                return text::are_eight_same(own, street, 8);
+            }
+            return false;
+        }
+    }
+    true
+}
+
+// The first row from i on that may be of a street, or how many slots there are. A walk that asks for one street looks only at
+// such rows: this loop, which runs over all the others, is kept short.
+fn next_on(guide: &[u8], street: &[u8], i: usize) -> usize
+    requires { ⌜ i ≤ rowSlots (now guide) ⌝ }
+    ensures { λ r. ⌜ (i ≤ r) × (r ≤ rowSlots (now (guide .entry))) × Elsewhere (now (street .entry)) (now (guide .entry)) i r ⌝ }
+{
+    let n = guide.len() / SLOT;
+    let mut j = i;
+    while j < n {
+        let a = j * SLOT;
+        let e = a + SLOT;
+        if may_be_on(&guide[a..e], street) {
+            return j;
+        }
+        j += 1;
+    }
+    j
+}
+
 // A present row that covers a record's address.
 fn is_over(slot: &[u8], rec: &[u8]) -> bool
     ensures { λ r. ⌜ r ≡ coversBy (now (rec .entry)) (now (slot .entry)) ⌝ }
@@ -49,7 +88,8 @@ pub fn find_row(guide: &[u8], rec: &[u8]) -> Sought
     ensures { λ r. ⌜ r ≡ sought (isOver (now (rec .entry)) (now (guide .entry))) (rowSlots (now (guide .entry))) ⌝ }
 {
     let n = guide.len() / SLOT;
-    let mut i: usize = 0;
+    let street = field::street(rec);
+    let mut i = next_on(guide, street, 0);
     while i < n {
         let a = i * SLOT;
         let e = a + SLOT;
@@ -59,7 +99,7 @@ pub fn find_row(guide: &[u8], rec: &[u8]) -> Sought
                 looked: i + 1,
             };
         }
-        i += 1;
+        i = next_on(guide, street, i + 1);
     }
     Sought {
         found: Found::Nothing,
@@ -82,7 +122,8 @@ pub fn find_clash(guide: &[u8], g: &[u8]) -> Sought
     ensures { λ r. ⌜ r ≡ sought (clashAt (now (g .entry)) (now (guide .entry))) (rowSlots (now (guide .entry))) ⌝ }
 {
     let n = guide.len() / SLOT;
-    let mut i: usize = 0;
+    let street = field::row_street(g);
+    let mut i = next_on(guide, street, 0);
     while i < n {
         let a = i * SLOT;
         let e = a + SLOT;
@@ -92,7 +133,7 @@ pub fn find_clash(guide: &[u8], g: &[u8]) -> Sought
                 looked: i + 1,
             };
         }
-        i += 1;
+        i = next_on(guide, street, i + 1);
     }
     Sought {
         found: Found::Nothing,
@@ -138,7 +179,8 @@ pub fn find_same(guide: &[u8], g: &[u8]) -> Sought
     ensures { λ r. ⌜ r ≡ sought (sameAt (now (g .entry)) (now (guide .entry))) (rowSlots (now (guide .entry))) ⌝ }
 {
     let n = guide.len() / SLOT;
-    let mut i: usize = 0;
+    let street = field::row_street(g);
+    let mut i = next_on(guide, street, 0);
     while i < n {
         let a = i * SLOT;
         let e = a + SLOT;
@@ -148,7 +190,7 @@ pub fn find_same(guide: &[u8], g: &[u8]) -> Sought
                 looked: i + 1,
             };
         }
-        i += 1;
+        i = next_on(guide, street, i + 1);
     }
     Sought {
         found: Found::Nothing,

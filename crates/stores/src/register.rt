@@ -55,25 +55,26 @@ pub fn rec(slot: &[u8]) -> &[u8]
     text::part_of(slot, RECORD_AT, RECORD_SIZE)
 }
 
-// Whether two numbers are the same. Numbers of one area differ in their last digits: those are looked at first.
+// Whether two numbers are the same. Numbers of one area differ in their last digits: the last eight, a word, are looked at first.
 fn is_same_number(a: &[u8], b: &[u8]) -> bool
     ensures { λ r. ⌜ r ≡ sameBytes (now (a .entry)) (now (b .entry)) ⌝ }
 {
-    if text::byte_of(a, 9) != text::byte_of(b, 9) {
-        return false;
-    }
-    if text::byte_of(a, 8) != text::byte_of(b, 8) {
-        return false;
+    if 10 <= a.len() {
+        if 10 <= b.len() {
+            if !text::are_eight_same(a, b, 2) {
+                return false;
+            }
+        }
     }
     text::same(a, b)
 }
 
-// A used slot with this number.
+// A used slot with this number. The number nearly always decides, and the state byte is then not looked at.
 fn is_of(slot: &[u8], number: &[u8]) -> bool
     ensures { λ r. ⌜ r ≡ isOf (now (number .entry)) (now (slot .entry)) ⌝ }
 {
-    if is_used(state(slot)) {
-        return is_same_number(field::number(rec(slot)), number);
+    if is_same_number(field::number(rec(slot)), number) {
+        return is_used(state(slot));
     }
     false
 }

@@ -8,11 +8,11 @@ use Prim.Native.Nat.{ℕ, zero, suc, _+_, _*_, _-_, _/_, _%_, _^_, _≤_, _<_}
 use native.Mathlib.Nat.{pow-suc, pow-le-pow-right, add-sub-cancel-left}
 use native.Mathlib.Omega.{arith}
 use native.Mathlib.Numerals.{add-one}
-use lib.Dec.{lit≤, eqb, ltb}
+use lib.Dec.{lit≤, eqb, ltb, eqb·zero-suc, eqb·suc-suc}
 use lib.ListN.{length, take, drop, getD, set, replicate, length-append, length-take, length-drop, length-replicate, replicate-append-replicate, drop-of-length-le}
 use lib.Seq.{drop-cons, take-length, drop-length, take-nil, take-all, drop-drop, set-at, take-at, drop-at, lt-length-set, getD-set-same, drop-set-lt}
 use borrow.Author.Tests.{eqb-true, eq-eqb, ne-eqb, le-leb, lt-leb, lt-ltb, le-ltb}
-use Rattle.text.specs.Text.{inClass, runOf, digitOf, valueFrom, sameBytes, part, putAt, spaces, digits, widthIn, amongSpaces}
+use Rattle.text.specs.Text.{inClass, allIn, runOf, digitOf, valueFrom, sameBytes, part, putAt, spaces, digits, widthIn, amongSpaces}
 use Rattle.text.specs.declared.Class.{Class}
 
 -- both tests, of the two
@@ -23,6 +23,14 @@ and-left false b h = h
 pub and-right : (a b : Bool) → (a && b) ≡ true → b ≡ true
 and-right true b h = h
 and-right false b h = let z : _≡_ {A = ℕ} 0 1 = cc in absurd (omega arith)
+
+pub and-true : (a : Bool) → (a && true) ≡ a
+and-true true = refl
+and-true false = refl
+
+pub and-false : (a : Bool) → (a && false) ≡ false
+and-false true = refl
+and-false false = refl
 
 pub left-at : (s : List ℕ) (i : ℕ) → i < length s → drop i s ≡ getD s i 0 ∷ drop (i + 1) s
 left-at s i h = rw (add-one, drop-cons s i 0)
@@ -71,6 +79,31 @@ same-apart s t i {a} {b} p q n = go (sameBytes s t) refl
     go true e = absurd (n (p ∙ ap (λ x. getD x i 0) (same-true s t e) ∙ sym q))
     go false e = refl
 
+-- parts of different lengths are not the same, nor are parts that differ in a part
+pub same-lengths : (s t : List ℕ) → (length t ≡ length s → ⊥) → false ≡ sameBytes s t
+same-lengths s t n = go (sameBytes s t) refl
+  where
+    go : (v : Bool) → sameBytes s t ≡ v → false ≡ v
+    go true e = absurd (n (ap length (sym (same-true s t e))))
+    go false e = refl
+
+pub same-part-not : (s t : List ℕ) (i n : ℕ) → sameBytes (part i n s) (part i n t) ≡ false → sameBytes s t ≡ false
+same-part-not s t i n h = go (sameBytes s t) refl
+  where
+    go : (v : Bool) → sameBytes s t ≡ v → v ≡ false
+    go true e = sym (same-refl (part i n s)) ∙ ap (λ x. sameBytes (part i n s) (part i n x)) (same-true s t e) ∙ h
+    go false e = refl
+
+-- behind n bytes that are the same, the rest decides
+same-past : (n : ℕ) (s t : List ℕ) → sameBytes (take n s) (take n t) ≡ true → sameBytes (drop n s) (drop n t) ≡ sameBytes s t
+same-past zero s t h = refl
+same-past (suc n) [] [] h = refl
+same-past (suc n) [] (b ∷ t) h = let z : _≡_ {A = ℕ} 0 1 = cc in absurd (omega arith)
+same-past (suc n) (a ∷ s) [] h = let z : _≡_ {A = ℕ} 0 1 = cc in absurd (omega arith)
+same-past (suc n) (a ∷ s) (b ∷ t) h =
+    rw (and-left (eqb a b) (sameBytes (take n s) (take n t)) h)
+    (same-past n s t (and-right (eqb a b) (sameBytes (take n s) (take n t)) h))
+
 -- the run of a class: one byte more of it, its end at a byte, its end at the end
 module _ (k : Class) (s : List ℕ) (i : ℕ) {v : ℕ} (inv : i + runOf k (drop i s) ≡ v) where
   pub run-more : i < length s → inClass k (getD s i 0) ≡ true → (i + 1) + runOf k (drop (i + 1) s) ≡ v
@@ -81,6 +114,16 @@ module _ (k : Class) (s : List ℕ) (i : ℕ) {v : ℕ} (inv : i + runOf k (drop
 
   pub run-all : length s ≤ i → i ≡ v
   run-all h = let t = ended (λ x. i + runOf k x) s i h inv in omega arith
+
+-- what is of a class from end to end
+pub run-whole : (k : Class) (s : List ℕ) → eqb (runOf k s) (length s) ≡ allIn k s
+run-whole k [] = refl
+run-whole k (b ∷ s) = go (run-whole k s) (inClass k b)
+  where
+    go : eqb (runOf k s) (length s) ≡ allIn k s → (v : Bool)
+        → eqb (cond v (suc (runOf k s)) 0) (suc (length s)) ≡ (v && allIn k s)
+    go ih true = eqb·suc-suc (runOf k s) (length s) ∙ ih
+    go ih false = eqb·zero-suc (length s)
 
 -- one digit more
 pub value-more : (s : List ℕ) (i n d : ℕ) {v : ℕ} → i < length s → d ≡ digitOf (getD s i 0) → valueFrom n (drop i s) ≡ v
@@ -107,9 +150,36 @@ module _ (s t : List ℕ) (i : ℕ) {v : Bool} (inv : sameBytes (drop i s) (drop
   pub same-all : length s ≤ i → length t ≤ i → true ≡ v
   same-all h k = ended (λ x. sameBytes [] x) t i k (ended (λ x. sameBytes x (drop i t)) s i h inv)
 
-and-true : (a : Bool) → (a && true) ≡ a
-and-true true = refl
-and-true false = refl
+  -- n bytes that are the same in both
+  pub same-many : (n : ℕ) → sameBytes (part i n s) (part i n t) ≡ true → sameBytes (drop (i + n) s) (drop (i + n) t) ≡ v
+  same-many n e = rw (← drop-drop n i s, ← drop-drop n i t) (same-past n (drop i s) (drop i t) e ∙ inv)
+
+-- bytes that are compared together: one more before them, and the last
+byte-more : (s t : List ℕ) (k : ℕ) {v : Bool} → k < length s → k < length t
+    → v ≡ sameBytes (drop (k + 1) s) (drop (k + 1) t) → (eqb (getD s k 0) (getD t k 0) && v) ≡ sameBytes (drop k s) (drop k t)
+byte-more s t k h l e = ap (λ x. eqb (getD s k 0) (getD t k 0) && x) e ∙ both-at s t k refl h l
+
+byte-last : (s t : List ℕ) (k : ℕ) → length s ≡ k + 1 → length t ≡ k + 1
+    → eqb (getD s k 0) (getD t k 0) ≡ sameBytes (drop k s) (drop k t)
+byte-last s t k h l =
+    sym (and-true (eqb (getD s k 0) (getD t k 0)))
+    ∙ byte-more s t k (omega arith) (omega arith) (same-all s t (k + 1) refl (omega arith) (omega arith))
+
+-- a word of eight
+abbrev pub sameAt : List ℕ → List ℕ → ℕ → Bool
+sameAt s t k = eqb (getD s k 0) (getD t k 0)
+
+pub word-same : (s t : List ℕ) → length s ≡ 8 → length t ≡ 8
+    → (sameAt s t 0 && (sameAt s t 1 && (sameAt s t 2 && (sameAt s t 3 && (sameAt s t 4 && (sameAt s t 5 && (sameAt s t 6 && sameAt s t 7)))))))
+    ≡ sameBytes s t
+word-same s t h l =
+    byte-more s t 0 (omega arith) (omega arith)
+    (byte-more s t 1 (omega arith) (omega arith)
+    (byte-more s t 2 (omega arith) (omega arith)
+    (byte-more s t 3 (omega arith) (omega arith)
+    (byte-more s t 4 (omega arith) (omega arith)
+    (byte-more s t 5 (omega arith) (omega arith)
+    (byte-more s t 6 (omega arith) (omega arith) (byte-last s t 7 h l)))))))
 
 -- a loop with one way out: the test of what was passed, and of the rest
 module _ (t : ℕ → Bool) (f : List ℕ → Bool) (s : List ℕ) (i : ℕ) (a : Bool) {v : Bool} (inv : (a && f (drop i s)) ≡ v) where

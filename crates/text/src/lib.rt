@@ -1,8 +1,10 @@
 // Parts of a line of bytes: classes of bytes, blank, runs of a class, the number that digits spell, whether two parts are
 // the same, and what is written into a part. Each loop is written and proved once, and every other crate calls it.
 ghost use mathlib.Core.Path.{_≡_};
+ghost use mathlib.Core.List.{[], _∷_};
+ghost use mathlib.Core.Bool.{true};
 ghost use Prim.Native.Nat.{_+_, _≤_, _<_, _^_};
-ghost use lib.ListN.{length, getD, replicate};
+ghost use lib.ListN.{length, drop, getD, replicate};
 ghost use Rattle.text.specs.Text.{inClass, allIn, allEqual, blank, runOf, runsOf, digitOf, valueOf, spelled};
 ghost use Rattle.text.specs.Text.{sameBytes, memberOf, allOf, part, putAt, digits, width, amongSpaces, leftDigits, rightDigits};
 
@@ -54,9 +56,23 @@ pub fn all_equal(f: &[u8], b: u8) -> bool
     all
 }
 
+// Whether every byte is a space. Of 4 to 15 bytes, the first four or eight and the last four or eight: two looks of a fixed length
+// are quicker than a loop.
 pub fn is_blank(f: &[u8]) -> bool
     ensures { λ r. ⌜ r ≡ blank (now (f .entry)) ⌝ }
 {
+    let n = f.len();
+    if n < 4 {
+        return all_in(f, Class::Space);
+    }
+    if n < 8 {
+        let last = n - 4;
+        return all_in(&f[0..4], Class::Space) & all_in(&f[last..n], Class::Space);
+    }
+    if n < 16 {
+        let last = n - 8;
+        return all_in(&f[0..8], Class::Space) & all_in(&f[last..n], Class::Space);
+    }
     all_in(f, Class::Space)
 }
 
@@ -113,6 +129,13 @@ fn value(f: &[u8]) -> u32
     n
 }
 
+// Whether there are only spaces, byte by byte: behind the digits of a number there are few, too few for a loop with one way out.
+fn is_rest_blank(f: &[u8]) -> bool
+    ensures { λ r. ⌜ r ≡ blank (now (f .entry)) ⌝ }
+{
+    run(f, Class::Space) == f.len()
+}
+
 // What a field of digits spells: a number, or none.
 pub enum Spelled {
     Number(u32),
@@ -133,35 +156,70 @@ pub fn number_in(f: &[u8], low: usize, high: usize) -> Spelled
     if high < n {
         return Spelled::NoNumber;
     }
-    if is_blank(&f[n..]) {
+    if is_rest_blank(&f[n..]) {
         return Spelled::Number(value(&f[0..n]));
     }
     Spelled::NoNumber
+}
+
+// Whether eight bytes of each are the same. They are written out, so that they are compared as one word.
+fn is_word_same(a: &[u8], b: &[u8]) -> bool
+    requires { ⌜ (length (now a) ≡ 8) × (length (now b) ≡ 8) ⌝ }
+    ensures { λ r. ⌜ r ≡ sameBytes (now (a .entry)) (now (b .entry)) ⌝ }
+{
+    (a[0] == b[0])
+        & ((a[1] == b[1])
+            & ((a[2] == b[2])
+                & ((a[3] == b[3])
+                    & ((a[4] == b[4]) & ((a[5] == b[5]) & ((a[6] == b[6]) & (a[7] == b[7])))))))
+}
+
+// Whether the eight bytes from i on, which are there, are the same in both.
+fn are_words_same(a: &[u8], b: &[u8], i: usize) -> bool
+    requires { ⌜ (i + 8 ≤ length (now a)) × (i + 8 ≤ length (now b)) ⌝ }
+    ensures { λ r. ⌜ r ≡ sameBytes (part i 8 (now (a .entry))) (part i 8 (now (b .entry))) ⌝ }
+{
+    let e = i + 8;
+    is_word_same(&a[i..e], &b[i..e])
+}
+
+// Whether the bytes from i on are the same, byte by byte.
+fn are_rest_same(a: &[u8], b: &[u8], i: usize) -> bool
+    requires { ⌜ (i ≤ length (now a)) × (length (now a) ≡ length (now b)) ⌝ }
+    ensures { λ r. ⌜ r ≡ sameBytes (drop i (now (a .entry))) (drop i (now (b .entry))) ⌝ }
+{
+    let mut j = i;
+    while j < a.len() {
+        if a[j] == b[j] {
+            j += 1;
+        } else {
+            return false;
+        }
+    }
+    true
 }
 
 // Whether two parts are the same bytes.
 pub fn same(a: &[u8], b: &[u8]) -> bool
     ensures { λ r. ⌜ r ≡ sameBytes (now (a .entry)) (now (b .entry)) ⌝ }
 {
+    let n = a.len();
+    if b.len() != n {
+        return false;
+    }
     let mut i = 0;
-    while i < a.len() {
-        if i < b.len() {
-            if a[i] == b[i] {
-                i += 1;
-            } else {
-                return false;
-            }
+    while 8 <= n - i {
+        if are_words_same(a, b, i) {
+            i += 8;
         } else {
             return false;
         }
     }
-    if i < b.len() {
-        return false;
-    }
-    true
+    are_rest_same(a, b, i)
 }
 
-fn member(set: &[u8], b: u8) -> bool
+// Whether a byte is one of the set.
+pub fn member(set: &[u8], b: u8) -> bool
     ensures { λ r. ⌜ r ≡ memberOf b (now (set .entry)) ⌝ }
 {
     let mut i = 0;
@@ -202,6 +260,28 @@ pub fn part_of(s: &[u8], i: usize, n: usize) -> &[u8]
         return &s[i..];
     }
     &s[0..0]
+}
+
+// Whether there are eight bytes from i on.
+fn has_eight(s: &[u8], i: usize) -> bool
+    ensures { λ r. ⌜ (r ≡ true → i + 8 ≤ length (now (s .entry))) ⌝ }
+{
+    if i <= s.len() {
+        return 8 <= s.len() - i;
+    }
+    false
+}
+
+// Whether the eight bytes from i on, or as many of them as there are, are the same in both.
+pub fn are_eight_same(a: &[u8], b: &[u8], i: usize) -> bool
+    ensures { λ r. ⌜ r ≡ sameBytes (part i 8 (now (a .entry))) (part i 8 (now (b .entry))) ⌝ }
+{
+    if has_eight(a, i) {
+        if has_eight(b, i) {
+            return are_words_same(a, b, i);
+        }
+    }
+    same(part_of(a, i, 8), part_of(b, i, 8))
 }
 
 // The byte at i, or 0 where there is none.
@@ -292,4 +372,16 @@ pub fn put_right(s: &mut [u8], n: u32)
         let a = s.len() - w;
         put_among_spaces(&mut s[..], a, w, n);
     }
+}
+
+// The number that two digits spell, as number_in reads a field of two bytes. Every date is three of them.
+pub fn two_digits(a: u8, b: u8) -> Spelled
+    ensures { λ r. ⌜ r ≡ spelled 2 2 (a ∷ (b ∷ [])) ⌝ }
+{
+    if in_class(Class::Digit, a) {
+        if in_class(Class::Digit, b) {
+            return Spelled::Number(digit(a) * 10 + digit(b));
+        }
+    }
+    Spelled::NoNumber
 }

@@ -23,17 +23,17 @@ returns-3 : tie.Need-returns-3
 unfolding spelled runsOf
 returns-3 c = rw (← c .before .before .run .ensures .0, le-leb _ _ (c .before .before .before .if1 .left), le-leb _ _ (c .before .if2 .left), lt-leb _ _ (c .if3 .taken))
 
-sub-is-blank : tie.Need-sub-is-blank
-sub-is-blank c = search needs
+sub-is-rest-blank : tie.Need-sub-is-rest-blank
+sub-is-rest-blank c = search needs
 
-part-is-blank-start : tie.Need-part-is-blank-start
-part-is-blank-start c = search needs
+part-is-rest-blank-start : tie.Need-part-is-rest-blank-start
+part-is-rest-blank-start c = search needs
 
-part-is-blank-end : tie.Need-part-is-blank-end
-part-is-blank-end c = search needs
+part-is-rest-blank-end : tie.Need-part-is-rest-blank-end
+part-is-rest-blank-end c = search needs
 
-is-blank-requires : tie.Need-is-blank-requires
-is-blank-requires c κs = search needs
+is-rest-blank-requires : tie.Need-is-rest-blank-requires
+is-rest-blank-requires c κs = search needs
 
 sub-value : tie.Need-sub-value
 sub-value c = search needs
@@ -49,12 +49,12 @@ value-requires c κs = search needs
 
 returns-4 : tie.Need-returns-4
 unfolding spelled runsOf
-returns-4 c = rw (← c .before .before .before .before .before .before .before .run .ensures .0, le-leb _ _ (c .before .before .before .before .before .before .before .before .if1 .left), le-leb _ _ (c .before .before .before .before .before .before .if2 .left), le-leb _ _ (c .before .before .before .before .before .if3 .left), sym (rw rest-is at (c .before .before .before .is-blank .ensures)) ∙ c .before .before .if4 .taken)
+returns-4 c = rw (← c .before .before .before .before .before .before .before .run .ensures .0, le-leb _ _ (c .before .before .before .before .before .before .before .before .if1 .left), le-leb _ _ (c .before .before .before .before .before .before .if2 .left), le-leb _ _ (c .before .before .before .before .before .if3 .left), sym (rw rest-is at (c .before .before .before .is-rest-blank .ensures)) ∙ c .before .before .if4 .taken)
     (ap Number (rw sub-zero at (c .value .ensures .0)))
 
 returns-5 : tie.Need-returns-5
 unfolding spelled runsOf
-returns-5 c = rw (← c .before .before .before .before .before .run .ensures .0, le-leb _ _ (c .before .before .before .before .before .before .if1 .left), le-leb _ _ (c .before .before .before .before .if2 .left), le-leb _ _ (c .before .before .before .if3 .left), sym (rw rest-is at (c .before .is-blank .ensures)) ∙ c .if4 .left)
+returns-5 c = rw (← c .before .before .before .before .before .run .ensures .0, le-leb _ _ (c .before .before .before .before .before .before .if1 .left), le-leb _ _ (c .before .before .before .before .if2 .left), le-leb _ _ (c .before .before .before .if3 .left), sym (rw rest-is at (c .before .is-rest-blank .ensures)) ∙ c .if4 .left)
 
 pub number-in-spec : {M : Type 1} → statement M
 number-in-spec =
@@ -64,10 +64,10 @@ number-in-spec =
     run-requires
     returns-2
     returns-3
-    sub-is-blank
-    part-is-blank-start
-    part-is-blank-end
-    is-blank-requires
+    sub-is-rest-blank
+    part-is-rest-blank-start
+    part-is-rest-blank-end
+    is-rest-blank-requires
     sub-value
     part-value-start
     part-value-end

@@ -1,26 +1,30 @@
-use mathlib.Core.Path.{_≡_}
+use mathlib.Core.Path.{_≡_, _∙_, refl, sym}
 use Prim.Native.Nat.{_≤_, _-_}
 use lib.ListN.{length, drop}
+use denote.Ref.{now}
 use borrow.Author.Needs.{needs}
-use Rattle.text.proofs.Laws.{same-more, same-not, same-left, same-right, same-all}
+use Rattle.text.proofs.Laws.{same-lengths, same-part-not, same-many}
 use Rattle.text.specs.Text.{sameBytes}
-use Rattle.text.proofs.same.Tie as tie
 use Rattle.text.proofs.same.Statement.{statement}
+use Rattle.text.proofs.same.Tie as tie
 
 abbrev Inv-loop : tie.InvT-loop
-Inv-loop a b i₀ i = (i ≤ length a) × (i ≤ length b) × (sameBytes (drop i a) (drop i b) ≡ sameBytes a b)
+Inv-loop a b n i₀ i = (i ≤ length a) × (length b ≡ length a) × (sameBytes (drop i a) (drop i b) ≡ sameBytes a b)
 
 abbrev μ-loop : tie.MeasureT-loop
-μ-loop a b i₀ i = length a - i
+μ-loop a b n i₀ i = length a - i
+
+returns : tie.Need-returns Inv-loop μ-loop
+returns c = same-lengths (c .before .before .before .args .a .now) (c .before .before .before .args .b .now) (c .if1 .taken)
 
 loop-holds : tie.Need-loop-holds Inv-loop μ-loop
-loop-holds c = search needs
+loop-holds c = (search needs, search needs, refl)
 
-shared-slice-read-if2 : tie.Need-shared-slice-read-if2 Inv-loop μ-loop
-shared-slice-read-if2 c = search needs
+sub-loop : tie.Need-sub-loop Inv-loop μ-loop
+sub-loop c = search needs
 
-shared-slice-read-if2-2 : tie.Need-shared-slice-read-if2-2 Inv-loop μ-loop
-shared-slice-read-if2-2 c = search needs
+are-words-same-requires : tie.Need-are-words-same-requires Inv-loop μ-loop
+are-words-same-requires c κs = search needs
 
 add-i : tie.Need-add-i Inv-loop μ-loop
 add-i c = search needs
@@ -29,26 +33,16 @@ loop-less : tie.Need-loop-less Inv-loop μ-loop
 loop-less c = search needs
 
 loop-again : tie.Need-loop-again Inv-loop μ-loop
-loop-again c = (
-  search needs,
-  search needs,
-  same-more _ _ _ (c .before .before .before .before .before .loop .inv .2)
-      (c .before .before .before .before .loop-test .taken) (c .before .before .before .if1 .taken) (c .if2 .taken),
-)
-
-returns : tie.Need-returns Inv-loop μ-loop
-returns c =
-    same-not _ _ _ (c .before .before .before .before .before .loop .inv .2)
-    (c .before .before .before .before .loop-test .taken) (c .before .before .before .if1 .taken) (c .if2 .left)
+loop-again c = (search needs, search needs, same-many (c .before .before .before .before .before .before .before .args .a .now) (c .before .before .before .before .before .before .before .args .b .now) (c .before .before .before .loop .i) (c .before .before .before .loop .inv .2) 8 (sym (c .before .are-words-same .ensures) ∙ c .if2 .taken))
 
 returns-2 : tie.Need-returns-2 Inv-loop μ-loop
-returns-2 c = same-left _ _ _ (c .before .before .loop .inv .2) (c .before .loop-test .taken) (c .if1 .left)
+returns-2 c = sym (same-part-not (c .before .before .before .before .before .before .before .args .a .now) (c .before .before .before .before .before .before .before .args .b .now) (c .before .before .before .loop .i) 8 (sym (c .before .are-words-same .ensures) ∙ c .if2 .left))
+
+are-rest-same-requires : tie.Need-are-rest-same-requires Inv-loop μ-loop
+are-rest-same-requires c κs = search needs
 
 returns-3 : tie.Need-returns-3 Inv-loop μ-loop
-returns-3 c = same-right _ _ _ (c .before .before .loop .inv .2) (c .before .loop-test .left) (c .if3 .taken)
-
-returns-4 : tie.Need-returns-4 Inv-loop μ-loop
-returns-4 c = same-all _ _ _ (c .before .before .loop .inv .2) (c .before .loop-test .left) (c .if3 .left)
+returns-3 c = c .are-rest-same .ensures ∙ c .before .before .loop .inv .2
 
 pub same-spec : {M : Type 1} → statement M
 same-spec =
@@ -56,13 +50,13 @@ same-spec =
     (tie.spec
     Inv-loop
     μ-loop
+    returns
     loop-holds
-    shared-slice-read-if2
-    shared-slice-read-if2-2
+    sub-loop
+    are-words-same-requires
     add-i
     loop-less
     loop-again
-    returns
     returns-2
-    returns-3
-    returns-4)
+    are-rest-same-requires
+    returns-3)

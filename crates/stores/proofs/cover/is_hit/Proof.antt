@@ -1,8 +1,17 @@
-use borrow.Author.Needs.{needs}
-use borrow.Author.Tests.{le-leb, lt-leb}
+use mathlib.Core.Path.{_∙_, sym}
+use denote.Ref.{now}
+use Rattle.text.proofs.Laws.{and-true}
 use Rattle.rules.specs.Covers.{hits}
-use Rattle.stores.proofs.cover.is_hit.Tie as tie
+use Rattle.stores.proofs.RangeLaws.{hits-not}
+use borrow.Author.Needs.{needs}
 use Rattle.stores.proofs.cover.is_hit.Statement.{statement}
+use Rattle.stores.proofs.cover.is_hit.Tie as tie
+
+parity-requires : tie.Need-parity-requires
+parity-requires c κs = search needs
+
+allowed-requires : tie.Need-allowed-requires
+allowed-requires c κs = search needs
 
 low-requires : tie.Need-low-requires
 low-requires c κs = search needs
@@ -32,26 +41,17 @@ returns-2 c = rw (← c .before .before .before .before .before .before .low .en
 
 returns-3 : tie.Need-returns-3
 unfolding hits
-returns-3 c = rw (← c .before .before .before .before .before .before .before .before .low .ensures, c .before .before .before .before .before .before .low2 .given .1, ← c .before .before .before .before .high .ensures, c .before .before .high2 .given .1, lt-leb _ _ (c .if1 .taken))
+returns-3 c = rw (← c .before .before .before .before .before .before .before .low .ensures, c .before .before .before .before .before .low2 .given .1, ← c .before .before .before .high .ensures, c .before .high2 .given .1, ← c .before .before .before .before .before .before .before .before .before .before .parity .ensures, ← c .before .before .before .before .before .before .before .before .before .allowed .ensures, c .before .before .before .before .before .before .before .before .if1 .taken, and-true)
 
 returns-4 : tie.Need-returns-4
-unfolding hits
-returns-4 c = rw (← c .before .before .before .before .before .before .before .before .before .low .ensures, c .before .before .before .before .before .before .before .low2 .given .1, ← c .before .before .before .before .before .high .ensures, c .before .before .before .high2 .given .1, le-leb _ _ (c .before .if1 .left), lt-leb _ _ (c .if2 .taken))
-
-parity-requires : tie.Need-parity-requires
-parity-requires c κs = search needs
-
-allowed-requires : tie.Need-allowed-requires
-allowed-requires c κs = search needs
-
-returns-5 : tie.Need-returns-5
-unfolding hits
-returns-5 c = rw (← c .before .before .before .before .before .before .before .before .before .before .before .low .ensures, c .before .before .before .before .before .before .before .before .before .low2 .given .1, ← c .before .before .before .before .before .before .before .high .ensures, c .before .before .before .before .before .high2 .given .1, le-leb _ _ (c .before .before .before .if1 .left), le-leb _ _ (c .before .before .if2 .left), ← c .before .parity .ensures) (c .allowed .ensures)
+returns-4 c = hits-not (c .before .before .before .before .args .row .now) (c .before .before .before .before .args .n) (rw (← c .before .before .parity .ensures) (sym (c .before .allowed .ensures) ∙ c .if1 .left))
 
 pub is-hit-spec : {M : Type 1} → statement M
 is-hit-spec =
     tie.close
     (tie.spec
+    parity-requires
+    allowed-requires
     low-requires
     enum-known-low
     enum-told
@@ -61,7 +61,4 @@ is-hit-spec =
     enum-told-2
     returns-2
     returns-3
-    returns-4
-    parity-requires
-    allowed-requires
-    returns-5)
+    returns-4)

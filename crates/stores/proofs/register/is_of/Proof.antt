@@ -1,12 +1,7 @@
+use Rattle.text.proofs.Laws.{and-true, and-false}
 use borrow.Author.Needs.{needs}
-use Rattle.stores.proofs.register.is_of.Tie as tie
 use Rattle.stores.proofs.register.is_of.Statement.{statement}
-
-state-requires : tie.Need-state-requires
-state-requires c κs = search needs
-
-is-used-requires : tie.Need-is-used-requires
-is-used-requires c κs = search needs
+use Rattle.stores.proofs.register.is_of.Tie as tie
 
 rec-requires : tie.Need-rec-requires
 rec-requires c κs = search needs
@@ -17,20 +12,26 @@ number-requires c κs = search needs
 is-same-number-requires : tie.Need-is-same-number-requires
 is-same-number-requires c κs = search needs
 
+state-requires : tie.Need-state-requires
+state-requires c κs = search needs
+
+is-used-requires : tie.Need-is-used-requires
+is-used-requires c κs = search needs
+
 returns : tie.Need-returns
-returns c = rw (← c .before .before .before .before .before .state .ensures, ← c .before .before .before .before .is-used .ensures, c .before .before .before .if1 .taken, ← c .before .before .rec .ensures, ← c .before .number .ensures) (c .is-same-number .ensures)
+returns c = rw (← c .before .before .before .before .before .rec .ensures, ← c .before .before .before .before .number .ensures, ← c .before .before .before .is-same-number .ensures, c .before .before .if1 .taken, and-true, ← c .before .state .ensures) (c .is-used .ensures)
 
 returns-2 : tie.Need-returns-2
-returns-2 c = rw (← c .before .before .state .ensures, ← c .before .is-used .ensures, c .if1 .left)
+returns-2 c = rw (← c .before .before .before .rec .ensures, ← c .before .before .number .ensures, ← c .before .is-same-number .ensures, c .if1 .left, and-false)
 
 pub is-of-spec : {M : Type 1} → statement M
 is-of-spec =
     tie.close
     (tie.spec
-    state-requires
-    is-used-requires
     rec-requires
     number-requires
     is-same-number-requires
+    state-requires
+    is-used-requires
     returns
     returns-2)

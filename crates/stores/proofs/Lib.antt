@@ -1,0 +1,2 @@
+pub mod StreetLaws
+pub mod RangeLaws

@@ -1,0 +1,53 @@
+use mathlib.Core.Path.{_≡_, refl}
+use Prim.Native.Nat.{_≤_, _-_}
+use lib.ListN.{length, drop}
+use borrow.Author.Needs.{needs}
+use Rattle.text.proofs.Laws.{same-more, same-not, same-all}
+use Rattle.text.specs.Text.{sameBytes}
+use Rattle.text.proofs.are_rest_same.Statement.{statement}
+use Rattle.text.proofs.are_rest_same.Tie as tie
+
+abbrev Inv-loop : tie.InvT-loop
+Inv-loop a b i j₀ j = (j ≤ length a) × (length a ≡ length b) × (sameBytes (drop j a) (drop j b) ≡ sameBytes (drop i a) (drop i b))
+
+abbrev μ-loop : tie.MeasureT-loop
+μ-loop a b i j₀ j = length a - j
+
+loop-holds : tie.Need-loop-holds Inv-loop μ-loop
+loop-holds c = (search needs, search needs, refl)
+
+shared-slice-read-if1 : tie.Need-shared-slice-read-if1 Inv-loop μ-loop
+shared-slice-read-if1 c = search needs
+
+shared-slice-read-if1-2 : tie.Need-shared-slice-read-if1-2 Inv-loop μ-loop
+shared-slice-read-if1-2 c = search needs
+
+add-j : tie.Need-add-j Inv-loop μ-loop
+add-j c = search needs
+
+loop-less : tie.Need-loop-less Inv-loop μ-loop
+loop-less c = search needs
+
+loop-again : tie.Need-loop-again Inv-loop μ-loop
+loop-again c = (search needs, search needs, same-more _ _ _ (c .before .before .before .before .loop .inv .2) (c .before .before .before .loop-test .taken) (search needs) (c .if1 .taken))
+
+returns : tie.Need-returns Inv-loop μ-loop
+returns c = same-not _ _ _ (c .before .before .before .before .loop .inv .2) (c .before .before .before .loop-test .taken) (search needs) (c .if1 .left)
+
+returns-2 : tie.Need-returns-2 Inv-loop μ-loop
+returns-2 c = same-all _ _ _ (c .before .loop .inv .2) (c .loop-test .left) (search needs)
+
+pub are-rest-same-spec : {M : Type 1} → statement M
+are-rest-same-spec =
+    tie.close
+    (tie.spec
+    Inv-loop
+    μ-loop
+    loop-holds
+    shared-slice-read-if1
+    shared-slice-read-if1-2
+    add-j
+    loop-less
+    loop-again
+    returns
+    returns-2)
