@@ -8,11 +8,11 @@ use Prim.Native.Nat.{ℕ, zero, suc, _+_, _*_, _-_, _/_, _%_, _^_, _≤_, _<_}
 use native.Mathlib.Nat.{pow-suc, pow-le-pow-right, add-sub-cancel-left}
 use native.Mathlib.Omega.{arith}
 use native.Mathlib.Numerals.{add-one}
-use lib.Dec.{lit≤, eqb, ltb, eqb·zero-suc, eqb·suc-suc}
+use lib.Dec.{lit≤, leb, eqb, ltb, eqb·zero-suc, eqb·suc-suc}
 use lib.ListN.{length, take, drop, getD, set, replicate, length-append, length-take, length-drop, length-replicate, replicate-append-replicate, drop-of-length-le}
 use lib.Seq.{drop-cons, take-length, drop-length, take-nil, take-all, drop-drop, set-at, take-at, drop-at, lt-length-set, getD-set-same, drop-set-lt}
-use borrow.Author.Tests.{eqb-true, eq-eqb, ne-eqb, le-leb, lt-leb, lt-ltb, le-ltb}
-use Rattle.text.specs.Text.{inClass, allIn, runOf, digitOf, valueFrom, sameBytes, part, putAt, spaces, digits, widthIn, amongSpaces}
+use borrow.Author.Tests.{leb-true, leb-false, eqb-true, eq-eqb, ne-eqb, le-leb, lt-leb, lt-ltb, le-ltb}
+use Rattle.text.specs.Text.{inClass, allIn, runOf, digitOf, valueFrom, sameBytes, part, eightSame, putAt, spaces, digits, widthIn, amongSpaces}
 use Rattle.text.specs.declared.Class.{Class}
 
 -- both tests, of the two
@@ -93,6 +93,20 @@ same-part-not s t i n h = go (sameBytes s t) refl
     go : (v : Bool) → sameBytes s t ≡ v → v ≡ false
     go true e = sym (same-refl (part i n s)) ∙ ap (λ x. sameBytes (part i n s) (part i n x)) (same-true s t e) ∙ h
     go false e = refl
+
+-- eight bytes from i on are there, where eight are left at i
+pub eight-left : (i n : ℕ) → i ≤ n → leb 8 (n - i) ≡ leb (i + 8) n
+eight-left i n h = go (leb 8 (n - i)) refl
+  where
+    go : (v : Bool) → leb 8 (n - i) ≡ v → v ≡ leb (i + 8) n
+    go true e = sym (le-leb (i + 8) n (omega (arith, leb-true 8 (n - i) e, h)))
+    go false e = sym (lt-leb (i + 8) n (omega (arith, leb-false 8 (n - i) e, h)))
+
+-- eight bytes that are there and not the same tell two lists apart
+pub eight-not : (s t : List ℕ) (i : ℕ) → i + 8 ≤ length s → i + 8 ≤ length t → eightSame i s t ≡ false → sameBytes s t ≡ false
+unfolding eightSame
+eight-not s t i p q h =
+    same-part-not s t i 8 (rw (le-leb (i + 8) (length s) p, le-leb (i + 8) (length t) q) at h)
 
 -- behind n bytes that are the same, the rest decides
 same-past : (n : ℕ) (s t : List ℕ) → sameBytes (take n s) (take n t) ≡ true → sameBytes (drop n s) (drop n t) ≡ sameBytes s t

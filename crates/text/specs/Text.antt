@@ -91,6 +91,10 @@ allOf set (b ∷ s) = memberOf b set && allOf set s
 abbrev pub part : ℕ → ℕ → List ℕ → List ℕ
 part i n s = take n (drop i s)
 
+-- the eight bytes from i on are there, and the same in both
+unfoldable pub eightSame : ℕ → List ℕ → List ℕ → Bool
+eightSame i a b = (leb (i + 8) (length a) && leb (i + 8) (length b)) && sameBytes (part i 8 a) (part i 8 b)
+
 -- ---- writing
 
 abbrev pub spaces : ℕ → List ℕ

@@ -2,11 +2,11 @@
 // the same, and what is written into a part. Each loop is written and proved once, and every other crate calls it.
 ghost use mathlib.Core.Path.{_≡_};
 ghost use mathlib.Core.List.{[], _∷_};
-ghost use mathlib.Core.Bool.{true};
 ghost use Prim.Native.Nat.{_+_, _≤_, _<_, _^_};
+ghost use lib.Dec.{leb};
 ghost use lib.ListN.{length, drop, getD, replicate};
 ghost use Rattle.text.specs.Text.{inClass, allIn, allEqual, blank, runOf, runsOf, digitOf, valueOf, spelled};
-ghost use Rattle.text.specs.Text.{sameBytes, memberOf, allOf, part, putAt, digits, width, amongSpaces, leftDigits, rightDigits};
+ghost use Rattle.text.specs.Text.{sameBytes, memberOf, allOf, part, eightSame, putAt, digits, width, amongSpaces, leftDigits, rightDigits};
 
 // The classes of bytes that the field rules name.
 pub enum Class {
@@ -264,7 +264,7 @@ pub fn part_of(s: &[u8], i: usize, n: usize) -> &[u8]
 
 // Whether there are eight bytes from i on.
 fn has_eight(s: &[u8], i: usize) -> bool
-    ensures { λ r. ⌜ (r ≡ true → i + 8 ≤ length (now (s .entry))) ⌝ }
+    ensures { λ r. ⌜ r ≡ leb (i + 8) (length (now (s .entry))) ⌝ }
 {
     if i <= s.len() {
         return 8 <= s.len() - i;
@@ -272,16 +272,14 @@ fn has_eight(s: &[u8], i: usize) -> bool
     false
 }
 
-// Whether the eight bytes from i on, or as many of them as there are, are the same in both.
+// Whether the eight bytes from i on are there, and the same in both: one look at a word, so short that a walk takes it into its loop.
 pub fn are_eight_same(a: &[u8], b: &[u8], i: usize) -> bool
-    ensures { λ r. ⌜ r ≡ sameBytes (part i 8 (now (a .entry))) (part i 8 (now (b .entry))) ⌝ }
+    ensures { λ r. ⌜ r ≡ eightSame i (now (a .entry)) (now (b .entry)) ⌝ }
 {
-    if has_eight(a, i) {
-        if has_eight(b, i) {
-            return are_words_same(a, b, i);
-        }
+    if has_eight(a, i) & has_eight(b, i) {
+        return are_words_same(a, b, i);
     }
-    same(part_of(a, i, 8), part_of(b, i, 8))
+    false
 }
 
 // The byte at i, or 0 where there is none.

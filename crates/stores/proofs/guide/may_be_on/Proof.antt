@@ -1,6 +1,7 @@
 use mathlib.Core.Path.{_∙_, sym, refl}
+use native.Mathlib.Omega.{arith}
 use denote.Ref.{now}
-use Rattle.text.proofs.Laws.{same-part-not}
+use Rattle.text.proofs.Laws.{eight-not}
 use Rattle.rules.proofs.WalkLaws.{clash-bool}
 use borrow.Author.Needs.{needs}
 use Rattle.stores.proofs.guide.may_be_on.Statement.{statement}
@@ -19,10 +20,10 @@ are-eight-same-requires-2 : tie.Need-are-eight-same-requires-2
 are-eight-same-requires-2 c κs = search needs
 
 returns : tie.Need-returns
-returns c = λ f. rw (← c .before .before .before .before .before .before .row .ensures, ← c .before .before .before .before .before .row-street .ensures) (same-part-not (now (c .before .before .before .before .before .row-street .result)) (c .before .before .before .before .before .before .before .before .before .args .street .now) 8 8 (sym (c .are-eight-same2 .ensures) ∙ f))
+returns c = λ f. rw (← c .before .before .before .before .before .before .row .ensures, ← c .before .before .before .before .before .row-street .ensures) (eight-not (now (c .before .before .before .before .before .row-street .result)) (c .before .before .before .before .before .before .before .before .before .args .street .now) 8 (omega (arith, c .before .before .before .before .if1 .taken)) (omega (arith, c .before .before .before .if2 .taken)) (sym (c .are-eight-same2 .ensures) ∙ f))
 
 returns-2 : tie.Need-returns-2
-returns-2 c = λ f. rw (← c .before .before .before .before .before .row .ensures, ← c .before .before .before .before .row-street .ensures) (same-part-not (now (c .before .before .before .before .row-street .result)) (c .before .before .before .before .before .before .before .before .args .street .now) 0 8 (sym (c .before .are-eight-same .ensures) ∙ c .if3 .left))
+returns-2 c = λ f. rw (← c .before .before .before .before .before .row .ensures, ← c .before .before .before .before .row-street .ensures) (eight-not (now (c .before .before .before .before .row-street .result)) (c .before .before .before .before .before .before .before .before .args .street .now) 0 (omega (arith, c .before .before .before .if1 .taken)) (omega (arith, c .before .before .if2 .taken)) (sym (c .before .are-eight-same .ensures) ∙ c .if3 .left))
 
 returns-3 : tie.Need-returns-3
 returns-3 c = λ f. clash-bool refl f

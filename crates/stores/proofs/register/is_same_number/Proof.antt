@@ -1,6 +1,6 @@
 use mathlib.Core.Path.{_∙_, sym}
 use denote.Ref.{now}
-use Rattle.text.proofs.Laws.{same-part-not}
+use Rattle.text.proofs.Laws.{eight-not}
 use Rattle.rules.proofs.WalkLaws.{not-true}
 use borrow.Author.Needs.{needs}
 use Rattle.stores.proofs.register.is_same_number.Statement.{statement}
@@ -10,7 +10,7 @@ are-eight-same-requires : tie.Need-are-eight-same-requires
 are-eight-same-requires c κs = search needs
 
 returns : tie.Need-returns
-returns c = sym (same-part-not (c .before .before .before .before .before .before .args .a .now) (c .before .before .before .before .before .before .args .b .now) 2 8 (sym (c .before .are-eight-same .ensures) ∙ not-true _ (c .if3 .taken)))
+returns c = sym (eight-not (c .before .before .before .before .before .before .args .a .now) (c .before .before .before .before .before .before .args .b .now) 2 (c .before .before .before .if1 .taken) (c .before .before .if2 .taken) (sym (c .before .are-eight-same .ensures) ∙ not-true _ (c .if3 .taken)))
 
 same-requires : tie.Need-same-requires
 same-requires c κs = search needs
