@@ -1,5 +1,5 @@
 #!/usr/bin/env bash
-# Builds the console and the circle against the static libraries and runs them, a line a check.
+# Builds the console, the circle and the measure of the stack against the static libraries and runs them, a line a check.
 #
 #   console/test.sh [FOLDER]    FOLDER has liblookup.a and libboundary.a; it may also be named by HAKKIYOLU_LIBS.
 #                               Otherwise it is target/staticlib under the repository's root.
@@ -263,5 +263,21 @@ if [ "$status" -eq 0 ] && [[ $help == "Usage: console REGISTER NUMBER..."* ]]; t
 else
     fail "console --help" "exit status $status"
 fi
+
+# ---- The stack of each call --------------------------------------------------------------------------------------
+
+# Sanitizers and valgrind use stack of their own, so only a plain build is measured. A call that is over the bound has
+# more on its line.
+quiet "stack builds" gcc -std=c11 -O2 -pthread "${warnings[@]}" "$root/console/stack.c" "$boundary" "$lookup" -o stack
+said=$(./stack 2>&1)
+status=$?
+for call in take_data take_data_refused take_guide take_guide_refused write_load lookup_hit lookup_miss; do
+    if line=$(grep -Ex "stack $call [0-9]+" <<<"$said"); then
+        ok "$line"
+    else
+        fail "stack $call" "exit status $status
+$said"
+    fi
+done
 
 finish

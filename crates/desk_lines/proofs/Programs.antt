@@ -91,7 +91,7 @@ empty-desk : (C l out : List ℕ) → deskOf (marksOf emptyDesk) (benchOf (empty
 unfolding deskOf marksOf emptyDesk
 empty-desk C l out = refl
 
-empty-ready : (c l o : ℕ) → mostCollected ≤ c → mostTyped + 1 ≤ l → mostSaid ≤ o → hasRoom (marksOf emptyDesk) c l o ≡ true
+pub empty-ready : (c l o : ℕ) → mostCollected ≤ c → mostTyped + 1 ≤ l → mostSaid ≤ o → hasRoom (marksOf emptyDesk) c l o ≡ true
 unfolding marksOf emptyDesk
 empty-ready c l o p q r =
     room-is (marksOf emptyDesk) c l o

@@ -1,8 +1,11 @@
--- The description's example, and a line that can't be read, on a desk of one slot of each kind: all is computed. Assumes nothing.
+-- The description's example, and a line that can't be read, on a desk of one slot of each kind: all is computed. And the theorems about
+-- the program are not empty: what it lends is room enough. Assumes nothing.
 use mathlib.Core.Path.{_≡_, refl}
+use mathlib.Core.Bool.{true}
 use mathlib.Core.List.{List, [], _∷_, _++_}
-use Prim.Native.Nat.{ℕ}
-use lib.ListN.{replicate}
+use Prim.Native.Nat.{ℕ, _+_, _≤_}
+use native.Mathlib.Omega.{arith}
+use lib.ListN.{length, replicate, length-replicate}
 use Rattle.layout.specs.Fields.{numberOf}
 use Rattle.rules.specs.Walks.{find, walked}
 use Rattle.rules.specs.Slots.{place, goodLength, stateOf, slotDay, recordOf, isZero, slotSound, unsoundSlot, registerSound, isPresent, isVacant, rowOf, freeRowSlot, rowSlotSound, unsoundRowSlot, guideSound}
@@ -10,7 +13,10 @@ use Rattle.rules.specs.Records.{hasNumber, findNumber}
 use Rattle.rules.specs.Takes.{linesIn, goodFile, checked, refusedFile, taken}
 use Rattle.rules.specs.Lookups.{isNumber, seenIn, seen}
 use Rattle.desk_lines.specs.Hex.{lineOf}
-use Rattle.desk_lines.specs.Desk.{Desk, takeSaid, lookSaid, collecting, takingGuide, takingData, looking, framed, lineRead, nextLine, lineEnded, typed, fed, ended, fedAll}
+use Rattle.desk_lines.specs.Desk.{Desk, emptyDesk, mostCollected, mostTyped, takeSaid, lookSaid, collecting, takingGuide, takingData, looking, framed, lineRead, nextLine, lineEnded, typed, fed, ended, fedAll, written}
+use Rattle.desk_lines.specs.Served.{Bench, benchOf, mostSaid, isReady, marksOf}
+use Rattle.desk_lines.specs.Kept.{allWrote}
+use Rattle.desk_lines.proofs.Programs.{empty-ready, program-writes}
 
 -- so many lines have ended, and this much of the next is typed
 abbrev pub oneSlot : ℕ → List ℕ → Desk
@@ -36,3 +42,30 @@ said =
 pub example : said ≡ (97 ∷ 50 ∷ 48 ∷ 51 ∷ 48 ∷ 48 ∷ 48 ∷ 48 ∷ 48 ∷ 48 ∷ 48 ∷ 48 ∷ 10 ∷ []) ++ ((97 ∷ 51 ∷ 48 ∷ 48 ∷ 48 ∷ 48 ∷ 48 ∷ 49 ∷ 10 ∷ []) ++ (97 ∷ 52 ∷ 48 ∷ 48 ∷ 48 ∷ 51 ∷ 10 ∷ []))
 unfolding said
 example = refl
+
+-- ---- what the program lends
+
+abbrev collection : List ℕ
+collection = replicate mostCollected 0
+
+abbrev line : List ℕ
+line = replicate (mostTyped + 1) 0
+
+abbrev out : List ℕ
+out = replicate mostSaid 0
+
+abbrev lent : Bench
+lent = benchOf (emptyDesk .stores .register) (emptyDesk .stores .guide) collection line out
+
+-- is room enough:
+enough : (n : ℕ) → n ≤ length {A = ℕ} (replicate n 0)
+enough n = rw length-replicate (omega arith)
+
+-- the empty desk is ready,
+pub ready : isReady (marksOf emptyDesk) lent ≡ true
+ready =
+    empty-ready (length collection) (length line) (length out) (enough mostCollected) (enough (mostTyped + 1)) (enough mostSaid)
+
+-- and what is written is what the definition says of the input
+pub writes : (input : List ℕ) → allWrote (marksOf emptyDesk) lent input ≡ written input
+writes input = program-writes collection line out input (enough mostCollected) (enough (mostTyped + 1)) (enough mostSaid)

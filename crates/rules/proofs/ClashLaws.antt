@@ -33,14 +33,14 @@ pub near : (p q low high n : ℕ) → low ≤ n → n ≤ high → allows p n �
 unfolding meetFrom
 near p q low high n h k a b = go (ℕ-discrete (low % 2) (n % 2))
   where
-    go : Dec (low % 2 ≡ n % 2) → (leb low high && bothAllow p q low) || (leb (low + 1) high && bothAllow p q (low + 1)) ≡ true
+    go : Dec (low % 2 ≡ n % 2) → meetFrom p q high low ≡ true
     go (yes e) =
-        or-left (leb low high && bothAllow p q low) (leb (low + 1) high && bothAllow p q (low + 1))
+        or-left _ (leb (low + 1) high && bothAllow p q (low + 1))
         (both-of p q high low (omega arith) (allows-alike p low n e ∙ a) (allows-alike q low n e ∙ b))
     go (no e) =
         let d : (low + 1) % 2 ≡ n % 2 = omega arith in
         let l : low + 1 ≤ high = omega arith in
-        or-right (leb low high && bothAllow p q low) (leb (low + 1) high && bothAllow p q (low + 1))
+        or-right (leb low high && bothAllow p q low) _
         (both-of p q high (low + 1) l (allows-alike p (low + 1) n d ∙ a) (allows-alike q (low + 1) n d ∙ b))
 
 -- a number from low to high that both parities allow

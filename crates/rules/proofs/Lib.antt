@@ -24,4 +24,5 @@ pub mod FileLaws
 pub mod TripLaws
 pub mod RoundTrip
 pub mod Witness
+pub mod Instances
 pub mod TripWitness

@@ -5,25 +5,15 @@ use mathlib.Core.List.{List, [], _∷_, _++_}
 use Prim.Native.Nat.{ℕ, _≤_}
 use native.Mathlib.Omega.{arith}
 use lib.ListN.{take, getD, replicate}
-use Rattle.text.specs.Text.{spelled, runsOf, putAt, width, amongSpaces, leftDigits, rightDigits}
-use Rattle.calendar.specs.Calendar.{dayOf}
-use Rattle.layout.specs.Counters.{cycleOf, wholeCount, countOf}
-use Rattle.layout.specs.Fields.{functionOf, numberOf, houseOf, streetOf, placeOf, esnOf, hasEsn, dateOf, companyOf, rowStreetOf, rowPlaceOf, lowOf, highOf, parityOf, allows, rowEsnOf, rowFunctionOf, withEsn, forLoad}
-use Rattle.layout.specs.Frames.{dateOf as frameDateOf, nameOf, headerOf, sameFrame, trailerOf, frameWith, headerWith, trailerWith}
-use Rattle.layout.specs.Rules.{isDirection, isDate, isCycle, isTally, keepsFrame, keepsOther, keeps, houseFault, endFault, highFault, parityFault, isWhole, faultBy, faultIn, recordFault, rowFault}
-use Rattle.rules.specs.Walks.{find, first, count}
-use Rattle.rules.specs.Slots.{slotAt, place, withPlace, goodLength, stateOf, slotDay, recordOf, slotOf, isZero, fitsSlot, dayFits, usedSound, slotSound, unsoundSlot, registerSound, isPresent, isVacant, rowOf, rowSlotOf, freeRowSlot, presentSound, rowSlotSound, unsoundRowSlot, guideSound}
-use Rattle.rules.specs.Covers.{hits, covers, sameStreet, meetFrom, meets, clash, sameRow}
-use Rattle.rules.specs.Records.{filedOf, hasNumber, findNumber, isOver, findRow, freeAt, isReusable, reusableAt, findFree, findReusable, findSpare, answerOf, shown, registerAfter, step, applied}
-use Rattle.rules.specs.Rows.{rowCodeOf, clashAt, findClash, vacantAt, findVacant, sameAt, findSame, entryUnder, findEntry, rowApplied}
-use Rattle.rules.specs.Takes.{Stores, linesIn, goodFile, headerLine, trailerLine, lineAt, badLine, linesChecked, trailerChecked, frameChecked, checked, lineApplied, after, answerAt, answersTo, zerosIn, othersIn, refusedFile, appliedFile, taken}
-use Rattle.rules.specs.History.{historyTo, historyAfter}
-use Rattle.rules.specs.Loads.{entryAt, entriesIn, linesTo, headerFor, trailerFor, loadFile, loadSize, loadHeader, laterAt, headerRefusal, loadRefusal, loaded}
-use Rattle.rules.specs.Demands.{start, taking, run}
-use Rattle.rules.specs.Circle.{Trip, tripOf}
+use Rattle.layout.specs.Fields.{functionOf, esnOf, companyOf}
+use Rattle.rules.specs.Slots.{slotAt, stateOf, recordOf}
+use Rattle.rules.specs.Takes.{Stores}
+use Rattle.rules.specs.Loads.{entriesIn, loaded}
+use Rattle.rules.specs.Demands.{start, run}
+use Rattle.rules.specs.Circle.{Trip, Returned, RoundTrip, tripOf}
 use Rattle.rules.proofs.KeepSound.{run-sound}
-use Rattle.rules.proofs.RoundTrip.{run-fit}
-use Rattle.rules.proofs.Witness.{day, company, files}
+use Rattle.rules.proofs.RoundTrip.{round-trip, run-fit}
+use Rattle.rules.proofs.Witness.{day, company, files, seen as run-seen}
 
 -- the stores that the run leaves
 abbrev stores : Stores
@@ -36,7 +26,7 @@ out = replicate 912 0
 -- whether the file is refused, and how many entries it has; what taking it returns; and of the slot that it fills the state, the
 -- Function, the ESN and the first letter of the Company ID
 pub seen : List ℕ
-unfolding spelled runsOf putAt dayOf cycleOf wholeCount countOf functionOf numberOf houseOf streetOf placeOf esnOf hasEsn dateOf companyOf rowStreetOf rowPlaceOf lowOf highOf parityOf allows rowEsnOf rowFunctionOf withEsn frameDateOf nameOf headerOf sameFrame trailerOf isDirection isDate isCycle isTally keepsFrame keepsOther keeps houseFault endFault highFault parityFault isWhole faultBy faultIn recordFault rowFault find first place withPlace goodLength stateOf slotDay recordOf slotOf isZero fitsSlot dayFits usedSound slotSound unsoundSlot registerSound isPresent isVacant rowOf rowSlotOf freeRowSlot presentSound rowSlotSound unsoundRowSlot guideSound hits covers sameStreet meetFrom meets clash sameRow filedOf hasNumber findNumber isOver findRow freeAt isReusable reusableAt findFree findReusable findSpare answerOf shown registerAfter step applied rowCodeOf clashAt findClash vacantAt findVacant sameAt findSame entryUnder findEntry rowApplied linesIn goodFile headerLine trailerLine lineAt badLine linesChecked trailerChecked frameChecked checked lineApplied after answerAt answersTo zerosIn othersIn refusedFile appliedFile taken historyTo historyAfter start taking run loaded loadRefusal headerRefusal loadHeader laterAt loadFile loadSize linesTo headerFor trailerFor entriesIn entryAt count headerWith trailerWith frameWith leftDigits rightDigits amongSpaces width forLoad
+unfolding run-seen
 seen =
     let l = loaded (stores .register) day company 2 out .result in
     let o = tripOf (stores .register) (stores .guide) day company 2 out (1 ∷ []) 1 1 in
@@ -66,3 +56,8 @@ trip =
   where
     few-entries : entriesIn (stores .register) ≤ 1
     few-entries = let e : entriesIn (stores .register) ≡ 1 = ap (λ l. getD l 1 0) witness in omega arith
+
+-- and the entry comes back
+pub returned : Returned (stores .register) (1 ∷ []) 2 1 (tripOf (stores .register) (stores .guide) day company 2 out (1 ∷ []) 1 1)
+unfolding RoundTrip
+returned = round-trip (stores .register) (stores .guide) day company 2 out (1 ∷ []) 1 1 trip

@@ -1,4 +1,4 @@
--- The demands are not empty: a guide row and four records are taken into one slot of each kind. A number passes from one company to
+-- The demands are not empty: a guide row and five records are taken into one slot of each kind. A number passes from one company to
 -- another by U and M, and a change of the old company is turned away. All is computed. Assumes nothing.
 use mathlib.Core.Path.{_≡_, refl}
 use mathlib.Core.List.{List, [], _∷_, _++_}
@@ -35,7 +35,7 @@ abbrev closing : ℕ → List ℕ
 closing n = 85 ∷ 84 ∷ 76 ∷ 32 ∷ 32 ∷ (day ++ (78 ∷ (spaces 57 ++ (n ∷ (spaces 129 ++ (42 ∷ []))))))
 
 -- a row B 1-9 of street A in C, TX, with ESN 83
-abbrev rowLine : List ℕ
+abbrev pub rowLine : List ℕ
 rowLine =
     spaces 2 ++ (65 ∷ (spaces 65 ++ (49 ∷ (spaces 9 ++ (57 ∷ (spaces 9 ++ (67 ∷ (spaces 31 ++ (84 ∷ 88 ∷ 66 ∷ 56 ∷ 51 ∷
     (spaces 73 ++ (73 ∷ 42 ∷ [])))))))))))
@@ -45,7 +45,7 @@ abbrev pub company : List ℕ
 company = 78 ∷ spaces 49
 
 -- a record of number 1111111111 at 1 A, C, TX, with a blank ESN, of the company whose letter is x
-abbrev line : ℕ → ℕ → List ℕ
+abbrev pub line : ℕ → ℕ → List ℕ
 line c x =
     c ∷ (replicate 10 49 ++ (49 ∷ (spaces 15 ++ (65 ∷ (spaces 65 ++ (67 ∷ (spaces 31 ++ (84 ∷ 88 ∷ (spaces 92 ++ (49 ∷ 48 ∷
     (spaces 29 ++ (day ++ (spaces 4 ++ (x ∷ (spaces 250 ++ (42 ∷ []))))))))))))))))
@@ -54,15 +54,15 @@ line c x =
 abbrev guideFile : List ℕ
 guideFile = opening ++ (rowLine ++ closing 49)
 
--- I and U of A, M of B, then C of A
+-- I and U of A, M of B, then C of A and C of B
 abbrev dataFile : List ℕ
-dataFile = opening ++ (line 73 65 ++ (line 85 65 ++ (line 77 66 ++ (line 67 65 ++ closing 52))))
+dataFile = opening ++ (line 73 65 ++ (line 85 65 ++ (line 77 66 ++ (line 67 65 ++ (line 67 66 ++ closing 53)))))
 
 -- both files
 abbrev pub files : List File
 files =
     record { kind = Guide; bytes = guideFile; answers = 1 ∷ []; last = 0 }
-    ∷ record { kind = Data; bytes = dataFile; answers = 1 ∷ 1 ∷ 1 ∷ 1 ∷ []; last = 0 }
+    ∷ record { kind = Data; bytes = dataFile; answers = 1 ∷ 1 ∷ 1 ∷ 1 ∷ 1 ∷ []; last = 0 }
     ∷ []
 
 -- a file of one record with a bad code, and one of D of B
@@ -85,11 +85,11 @@ written l =
     t .refusal ∷ t .bytes ∷ t .entries ∷ []
 
 -- the guide file and the data file, what lookup shows then, the D, the load file before and after it, an empty file and a bad one
-pub seen : List (List ℕ)
+unfoldable pub seen : List (List ℕ)
 unfolding spelled runsOf putAt dayOf cycleOf wholeCount countOf functionOf numberOf houseOf streetOf placeOf esnOf hasEsn dateOf companyOf rowStreetOf rowPlaceOf lowOf highOf parityOf allows rowEsnOf rowFunctionOf withEsn frameDateOf nameOf headerOf sameFrame trailerOf isDirection isDate isCycle isTally keepsFrame keepsOther keeps houseFault endFault highFault parityFault isWhole faultBy faultIn recordFault rowFault find first place withPlace goodLength stateOf slotDay recordOf slotOf isZero fitsSlot dayFits usedSound slotSound unsoundSlot registerSound isPresent isVacant rowOf rowSlotOf freeRowSlot presentSound rowSlotSound unsoundRowSlot guideSound hits covers sameStreet meetFrom meets clash sameRow filedOf hasNumber findNumber isOver findRow freeAt isReusable reusableAt findFree findReusable findSpare answerOf shown registerAfter step applied rowCodeOf clashAt findClash vacantAt findVacant sameAt findSame entryUnder findEntry rowApplied linesIn goodFile headerLine trailerLine lineAt badLine linesChecked trailerChecked frameChecked checked lineApplied after answerAt answersTo zerosIn othersIn refusedFile appliedFile taken historyTo historyAfter start taking run walked count isNumber seenIn lookup packed forLoad width amongSpaces leftDigits rightDigits frameWith headerWith trailerWith entryAt entriesIn linesTo headerFor trailerFor loadFile loadSize loadHeader laterAt headerRefusal loadRefusal loaded
 seen =
     let o = run (record { kind = Guide; bytes = guideFile; answers = 1 ∷ []; last = 0 } ∷ []) (start 1 1) in
-    let t = taken Data (o .stores) dataFile (1 ∷ 1 ∷ 1 ∷ 1 ∷ []) 0 in
+    let t = taken Data (o .stores) dataFile (1 ∷ 1 ∷ 1 ∷ 1 ∷ 1 ∷ []) 0 in
     let e = run files (start 1 1) in
     let R = e .stores .register in
     let s = slotAt R 0 in
@@ -110,9 +110,9 @@ seen =
     ∷ []
 
 pub witness : seen
-    ≡ (0 ∷ 0 ∷ 0 ∷ 16 ∷ [])  -- I, U and M are taken, the late C is answered 16
-    ∷ (0 ∷ 0 ∷ 0 ∷ 4 ∷ 3 ∷ 1 ∷ 1 ∷ [])  -- 4 records, 3 done and 1 not, last cycle 1
-    ∷ (4 ∷ [])  -- the history has the row and three records
+    ≡ (0 ∷ 0 ∷ 0 ∷ 16 ∷ 0 ∷ [])  -- I, U and M are taken, the late C of A is answered 16, the C of B is taken
+    ∷ (0 ∷ 0 ∷ 0 ∷ 5 ∷ 4 ∷ 1 ∷ 1 ∷ [])  -- 5 records, 4 done and 1 not, last cycle 1
+    ∷ (5 ∷ [])  -- the history has the row and four records
     ∷ (1 ∷ 56 ∷ 51 ∷ 32 ∷ 32 ∷ 32 ∷ 66 ∷ [])  -- the number is held by B under ESN 83
     ∷ (0 ∷ 1 ∷ 0 ∷ 1 ∷ 4294967297 ∷ [])  -- lookup shows it held in slot 0, after 1 slot looked at
     ∷ (10 ∷ [])  -- lookup of no number

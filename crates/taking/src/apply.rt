@@ -34,7 +34,7 @@ pub fn apply_records(
             h,
             checks::line_at(Kind::Data, lines, i),
         );
-        answers[i] = answer;
+        answers[i] = answer; // a record that is turned away changes this byte alone
         if answer == 0 {
             done += 1;
         }

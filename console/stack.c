@@ -1,0 +1,148 @@
+/*
+ * stack: measures how much stack each call of the libraries uses, and holds it to BOUND.
+ *
+ * A thread runs the call on a stack of our own that was painted before; the lowest word that changed tells how deep it
+ * went, and the same with a call of nothing is subtracted. The stores are sound and not empty, and the files have lines
+ * that are done and lines that are turned away, or a fault in the last byte of the last line: a call goes as deep as it
+ * can. The caller's arguments and result are counted; what is set aside below the lowest word written is not seen.
+ *
+ * Prints `stack NAME BYTES` for each call. Exit status: 0 all are within BOUND and answered as is due, 1 one is not,
+ * 3 no thread can be run or the output cannot be written.
+ */
+#define _POSIX_C_SOURCE 200809L
+#include <pthread.h>
+#include <stdio.h>
+#include <stdlib.h>
+#include <string.h>
+
+#include "hakkiyolu.h"
+
+enum { BOUND = 4096, SLOTS = 8, ROWS = 3, RECORDS = 5, PAD = 4096, WORDS = 32768 };
+
+/* The lines of a file. Each width is that of a text's field and the blank ones behind it; a record's ESN is blank. */
+#define FRAME "%-5s101026%-50s%-138s*"
+#define FRAME_OF(mark, number) mark, "MILL COUNTY", number
+#define ROW "  %-66s%-10s%-10s%-32sOR%s%-75s%s*"
+#define ROW_OF(code, low, high, parity) "MILL", low, high, "MILLBROOK", parity, "84", code
+#define RECORD "%s%-10s%-16s%-66s%-32s%-94s%-31s%-10s%-251s*"
+#define RECORD_OF(code, number, date) code, number, "104", "MILL", "MILLBROOK", "OR", "10", date, "OLDCO"
+
+/* A call on a file or a number, and what is due of it: lines done or the fault's position; entries; slots looked at. */
+struct call {
+    const char *name;
+    uint32_t (*run)(const void *given);
+    const void *given;
+    uint32_t due;
+};
+
+static const uint64_t PAINT = 0xA5A5A5A5A5A5A5A5;
+static _Alignas(4096) uint64_t stack[WORDS];
+static uint8_t reg[SLOTS * HAKKIYOLU_REGISTER_SLOT_BYTES], guide[SLOTS * HAKKIYOLU_GUIDE_SLOT_BYTES], answers[RECORDS],
+    load[HAKKIYOLU_DATA_FILE_BYTES(SLOTS)];
+static char rows[HAKKIYOLU_GUIDE_FILE_BYTES(ROWS) + 1], bad_rows[sizeof rows],
+    records[HAKKIYOLU_DATA_FILE_BYTES(RECORDS) + 1], first_records[sizeof records], bad_records[sizeof records];
+static uint32_t answered;
+
+/* The rows and the first records fill the stores; the rows are then taken again, and the records with a new number. */
+static void write_files(void)
+{
+    snprintf(rows, sizeof rows, FRAME ROW ROW ROW FRAME, FRAME_OF("UHL", "1"), ROW_OF("I", "100", "198", "E"),
+        ROW_OF("I", "300", "300", "B"), ROW_OF("D", "300", "300", "B"), FRAME_OF("UTL", "        3"));
+    snprintf(records, sizeof records, FRAME RECORD RECORD RECORD RECORD RECORD FRAME, FRAME_OF("UHL", "1"),
+        RECORD_OF("I", "5035550100", "100126"), RECORD_OF("I", "5035550101", "100126"),
+        RECORD_OF("C", "5035550101", "100226"), RECORD_OF("U", "5035550102", "100326"),
+        RECORD_OF("D", "5035550199", "100326"), FRAME_OF("UTL", "        5"));
+    memcpy(first_records, records, sizeof records);
+    records[HAKKIYOLU_HEADER_BYTES + HAKKIYOLU_NUMBER_BYTES] = '2';
+    memcpy(bad_records, records, sizeof records);
+    bad_records[sizeof records - 1 - HAKKIYOLU_TRAILER_BYTES - 1] = ' ';
+    memcpy(bad_rows, rows, sizeof rows);
+    bad_rows[sizeof rows - 1 - HAKKIYOLU_TRAILER_BYTES - 1] = ' ';
+}
+
+static uint32_t take_guide(const void *file)
+{
+    const struct hakkiyolu_taken taken = hakkiyolu_take_guide(
+        reg, sizeof reg, guide, sizeof guide, file, sizeof rows - 1, answers, sizeof answers, 0);
+    return taken.done + taken.position;
+}
+
+static uint32_t take_data(const void *file)
+{
+    const struct hakkiyolu_taken taken = hakkiyolu_take_data(
+        reg, sizeof reg, guide, sizeof guide, file, sizeof records - 1, answers, sizeof answers, 0);
+    return taken.done + taken.position;
+}
+
+/* The name and the date of a header are those of the load file. */
+static uint32_t write_load(const void *header)
+{
+    const uint8_t *date = (const uint8_t *)header + 5, *name = date + HAKKIYOLU_DATE_BYTES;
+    const struct hakkiyolu_loaded loaded = hakkiyolu_write_load(reg, sizeof reg, date, HAKKIYOLU_DATE_BYTES, name,
+        HAKKIYOLU_NAME_BYTES, HAKKIYOLU_CYCLE_MOST, load, sizeof load);
+    return loaded.entries;
+}
+
+static uint32_t lookup(const void *number)
+{
+    return hakkiyolu_seen_looked(hakkiyolu_lookup(reg, sizeof reg, number, HAKKIYOLU_NUMBER_BYTES));
+}
+
+static uint32_t nothing(const void *given)
+{
+    return given != NULL;
+}
+
+/* What the thread itself needs at its start and its end lies above the pad, and the call below. */
+static void *run_below(void *call)
+{
+    uint8_t pad[PAD];
+    uint8_t *volatile low = pad; /* so that the pad is not left out */
+    const struct call *c = call;
+    low[0] = 0;
+    answered = c->run(c->given);
+    return low[0] == 0 ? NULL : call;
+}
+
+/* How much of the stack a call changes, on stores that are filled anew. */
+static size_t depth(struct call *call)
+{
+    pthread_attr_t own;
+    pthread_t thread;
+    size_t free_words = 0;
+    memset(reg, 0, sizeof reg);
+    memset(guide, 0, sizeof guide);
+    take_guide(rows);
+    take_data(first_records);
+    memset(stack, (int)(PAINT & 0xFF), sizeof stack);
+    if (pthread_attr_init(&own) != 0 || pthread_attr_setstack(&own, stack, sizeof stack) != 0
+        || pthread_create(&thread, &own, run_below, call) != 0 || pthread_join(thread, NULL) != 0) {
+        fputs("stack: no thread can be run\n", stderr);
+        exit(3);
+    }
+    while (free_words < WORDS && stack[free_words] == PAINT) {
+        free_words++;
+    }
+    return (WORDS - free_words) * sizeof stack[0];
+}
+
+int main(void)
+{
+    struct call none = {"nothing", nothing, NULL, 0};
+    struct call calls[] = {
+        {"take_data", take_data, records, 3}, {"take_data_refused", take_data, bad_records, HAKKIYOLU_RECORD_BYTES},
+        {"take_guide", take_guide, rows, 2}, {"take_guide_refused", take_guide, bad_rows, HAKKIYOLU_ROW_BYTES},
+        {"write_load", write_load, rows, 2}, {"lookup_hit", lookup, "5035550101", 2},
+        {"lookup_miss", lookup, "5035550199", SLOTS},
+    };
+    int status = 0;
+    write_files();
+    const size_t before = depth(&none);
+    for (size_t i = 0; i < sizeof calls / sizeof calls[0]; i++) {
+        const size_t bytes = depth(&calls[i]) - before;
+        const int good = bytes <= BOUND && answered == calls[i].due;
+        printf("stack %s %zu%s\n", calls[i].name, bytes, good ? "" : ": over the bound, or not answered as is due");
+        status = good ? status : 1;
+    }
+    return fflush(stdout) == 0 ? status : 3;
+}
