@@ -1,16 +1,18 @@
 -- A walk that asks for one street may pass the rows of the others.
 -- Assumes nothing.
-use mathlib.Core.Path.{_≡_}
-use mathlib.Core.Bool.{Bool, false}
+use mathlib.Core.Path.{_≡_, ap, _∙_}
+use mathlib.Core.Bool.{Bool, false, _&&_}
 use mathlib.Core.List.{List}
 use Prim.Native.Nat.{ℕ, zero, suc, _+_, _≤_, _<_}
 use native.Mathlib.Decide.{decLt}
 use native.Mathlib.Numerals.{add-one}
 use native.Mathlib.Omega.{arith}
-use Rattle.layout.specs.Fields.{streetOf, rowStreetOf}
-use Rattle.rules.specs.Slots.{rowSlotAt, isPresent}
-use Rattle.rules.specs.Covers.{covers, sameStreet, clash, sameRow}
-use Rattle.rules.specs.Records.{isOver}
+use Rattle.text.specs.declared.Spelled.the-variants.{Number, NoNumber}
+use Rattle.text.specs.Text.{sameBytes}
+use Rattle.layout.specs.Fields.{houseOf, streetOf, placeOf, rowStreetOf, rowPlaceOf}
+use Rattle.rules.specs.Slots.{rowSlotAt, isPresent, rowOf}
+use Rattle.rules.specs.Covers.{over, covers, sameStreet, clash, sameRow}
+use Rattle.rules.specs.Records.{coversBy, isOver}
 use Rattle.rules.specs.Rows.{clashAt, sameAt}
 use Rattle.rules.proofs.WalkLaws.{Passed, passed-none, passed-more}
 use Rattle.stores.specs.Streets.{isOn, Elsewhere}
@@ -36,6 +38,24 @@ passed-past p n i (suc j) s h l f = go (λ b. passed-past p n i j s b (omega ari
     go : (i ≤ j → Passed p n j) → Dec (i < suc j) → Passed p n (suc j)
     go ih (yes b) = rw (← add-one j) (passed-more p n j (ih (omega arith)) (omega arith) (f j (omega arith) (omega arith)))
     go ih (no b) = let z : i ≡ suc j = omega arith in rw (← z) s
+
+-- a test that no row passes
+pub passed-through : (p : ℕ → Bool) (n : ℕ) → ((k : ℕ) → p k ≡ false) → Passed p n n
+passed-through p n f = passed-past p n 0 n (passed-none p n) (omega arith) (omega arith) (λ k x y. f k)
+
+-- a record's address, read: street, place and number, or no number
+pub read-over : (r street town : List ℕ) (n : ℕ) → street ≡ streetOf r → town ≡ placeOf r → houseOf r ≡ Number n → (s : List ℕ)
+    → (isPresent s && over (rowOf s) street town n) ≡ coversBy r s
+unfolding over covers
+read-over r street town n p q e s = rw (p, q, e)
+
+pub none-over : (r G : List ℕ) → houseOf r ≡ NoNumber → (k : ℕ) → isOver r G k ≡ false
+unfolding isOver covers
+none-over r G e k =
+    rw e (ap (λ x. isPresent (rowSlotAt G k) && x)
+    (ap (λ x. sameBytes (rowStreetOf (rowOf (rowSlotAt G k))) (streetOf r) && x) (and-false (sameBytes (rowPlaceOf (rowOf (rowSlotAt G k))) (placeOf r)))
+    ∙ and-false (sameBytes (rowStreetOf (rowOf (rowSlotAt G k))) (streetOf r)))
+    ∙ and-false (isPresent (rowSlotAt G k)))
 
 -- a test that no row of another street passes
 module _ (p : ℕ → Bool) (n : ℕ) (street G : List ℕ) (f : (k : ℕ) → isOn street (rowSlotAt G k) ≡ false → p k ≡ false) where

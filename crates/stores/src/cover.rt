@@ -2,12 +2,12 @@
 ghost use mathlib.Core.Path.{_≡_};
 ghost use Prim.Native.Nat.{min, max};
 ghost use Rattle.layout.specs.Fields.{parityOf};
-ghost use Rattle.rules.specs.Covers.{hits, covers, sameStreet, bothAllow, meetFrom, meets, clash, equalNumbers, sameRow};
+ghost use Rattle.rules.specs.Covers.{hits, over, covers, sameStreet, bothAllow, meetFrom, meets, clash, equalNumbers, sameRow};
 use layout::field;
 use text::Spelled;
 
 // Whether a house number lies in the row's range and is of its parity. The parity is one byte, and tells the rows of the
-// other side of a street before an end is read.
+// other side of a street before an end is read; High is read only where Low is no more than the number.
 pub fn is_hit(row: &[u8], n: u32) -> bool
     ensures { λ r. ⌜ r ≡ hits (now (row .entry)) n ⌝ }
 {
@@ -15,10 +15,27 @@ pub fn is_hit(row: &[u8], n: u32) -> bool
         let Spelled::Number(low) = field::low(row) else {
             return false;
         };
+        if n < low {
+            return false;
+        }
         let Spelled::Number(high) = field::high(row) else {
             return false;
         };
-        return (low <= n) & (n <= high);
+        return n <= high;
+    }
+    false
+}
+
+// Whether a row stands over house number n of a street in a place.
+pub fn is_over(row: &[u8], street: &[u8], place: &[u8], n: u32) -> bool
+    ensures { λ r. ⌜ r ≡ over (now (row .entry)) (now (street .entry)) (now (place .entry)) n ⌝ }
+{
+    if field::allowed(field::parity(row), n) {
+        if text::same(field::row_street(row), street) {
+            if text::same(field::row_place(row), place) {
+                return is_hit(row, n);
+            }
+        }
     }
     false
 }
@@ -127,8 +144,8 @@ fn may_meet(g: &[u8], h: &[u8]) -> bool
 pub fn do_clash(g: &[u8], h: &[u8]) -> bool
     ensures { λ r. ⌜ r ≡ clash (now (g .entry)) (now (h .entry)) ⌝ }
 {
-    if is_same_street(g, h) {
-        if may_meet(g, h) {
+    if may_meet(g, h) {
+        if is_same_street(g, h) {
             return do_meet(g, h);
         }
     }

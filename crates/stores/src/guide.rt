@@ -1,17 +1,19 @@
 // The guide's slots of 208 bytes: what is read from one, the walks over them, and the one place that writes one.
 ghost use mathlib.Core.Path.{_≡_};
-ghost use mathlib.Core.Bool.{false};
+ghost use mathlib.Core.Bool.{false, _&&_};
 ghost use Prim.Native.Nat.{_≤_};
 ghost use lib.ListN.{length, replicate};
 ghost use Rattle.rules.specs.Walks.{sought};
 ghost use Rattle.rules.specs.Slots.{rowSlots, isPresent, isVacant, rowOf, rowWritten};
-ghost use Rattle.rules.specs.Records.{coversBy, isOver};
+ghost use Rattle.rules.specs.Covers.{over};
+ghost use Rattle.rules.specs.Records.{isOver};
 ghost use Rattle.rules.specs.Rows.{clashesBy, clashAt, vacantAt, isSameBy, sameAt};
 ghost use Rattle.stores.specs.Streets.{isOn, Elsewhere};
 use crate::cover;
 use layout::field;
 use rules::Found;
 use rules::Sought;
+use text::Spelled;
 
 pub const SLOT: usize = 208;
 
@@ -73,27 +75,34 @@ fn next_on(guide: &[u8], street: &[u8], i: usize) -> usize
     j
 }
 
-// A present row that covers a record's address.
-fn is_over(slot: &[u8], rec: &[u8]) -> bool
-    ensures { λ r. ⌜ r ≡ coversBy (now (rec .entry)) (now (slot .entry)) ⌝ }
+// A present row that stands over house number n of a street in a place.
+fn is_over(slot: &[u8], street: &[u8], place: &[u8], n: u32) -> bool
+    ensures { λ r. ⌜ r ≡ isPresent (now (slot .entry)) && over (rowOf (now (slot .entry))) (now (street .entry)) (now (place .entry)) n ⌝ }
 {
     if is_present(slot) {
-        return cover::does_cover(row(slot), rec);
+        return cover::is_over(row(slot), street, place, n);
     }
     false
 }
 
-// The lowest row over a record's address.
+// The lowest row over a record's address, which is read once.
 pub fn find_row(guide: &[u8], rec: &[u8]) -> Sought
     ensures { λ r. ⌜ r ≡ sought (isOver (now (rec .entry)) (now (guide .entry))) (rowSlots (now (guide .entry))) ⌝ }
 {
     let n = guide.len() / SLOT;
+    let Spelled::Number(house) = field::house(rec) else {
+        return Sought {
+            found: Found::Nothing,
+            looked: n,
+        };
+    };
     let street = field::street(rec);
+    let place = field::place(rec);
     let mut i = next_on(guide, street, 0);
     while i < n {
         let a = i * SLOT;
         let e = a + SLOT;
-        if is_over(&guide[a..e], rec) {
+        if is_over(&guide[a..e], street, place, house) {
             return Sought {
                 found: Found::At(i),
                 looked: i + 1,
