@@ -1,6 +1,7 @@
 use mathlib.Core.Path.{_∙_, sym, ap}
 use Prim.Native.Nat.{_/_}
 use lib.ListN.{length}
+use native.Mathlib.Omega.{arith}
 use denote.Ref.{now}
 use borrow.Author.Needs.{needs}
 use Rattle.rules.specs.declared.Sought.{Sought}
@@ -44,7 +45,7 @@ unfolding rowStep findClash findVacant first
 returns-2 c = (rw (← (ap (λ (x : Sought). x .found) (c .before .before .before .before .before .before .find-clash .ensures)), c .before .before .before .before .enum-told .given .1, ← (ap (λ (x : Sought). x .found) (c .before .before .find-vacant .ensures)), c .enum-told3 .given .1), rw (← (ap (λ (x : Sought). x .found) (c .before .before .before .before .before .before .find-clash .ensures)), c .before .before .before .before .enum-told .given .1, ← (ap (λ (x : Sought). x .found) (c .before .before .find-vacant .ensures)), c .enum-told3 .given .1))
 
 write-at-requires : tie.Need-write-at-requires
-write-at-requires c κs = (find-some (vacantAt (c .before .before .before .before .before .before .before .before .before .before .before .before .before .args .guide .now)) (length (c .before .before .before .before .before .before .before .before .before .before .before .before .before .args .guide .now) / 208) (c .before .before .free .given .0 .0) (sym (ap (λ (x : Sought). x .found) (c .before .before .before .before .find-vacant .ensures)) ∙ c .before .before .free .given .1) .0, c .before .before .before .before .before .before .before .before .before .before .before .before .before .pre)
+write-at-requires c κs = (let h = find-some (vacantAt (c .before .before .before .before .before .before .before .before .before .before .before .before .before .args .guide .now)) (length (c .before .before .before .before .before .before .before .before .before .before .before .before .before .args .guide .now) / 208) (c .before .before .free .given .0 .0) (sym (ap (λ (x : Sought). x .found) (c .before .before .before .before .find-vacant .ensures)) ∙ c .before .before .free .given .1) .0 in omega (arith, h), c .before .before .before .before .before .before .before .before .before .before .before .before .before .pre)
 
 same-length-3 : tie.Need-same-length-3
 same-length-3 c = search needs
