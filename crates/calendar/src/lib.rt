@@ -99,18 +99,12 @@ pub fn day_in(f: &[u8]) -> Date
     day_from(m, d, y)
 }
 
-fn wide(b: u8) -> u32
-    ensures { λ r. ⌜ (r ≡ b) × (r ≤ 255) ⌝ }
-{
-    b as u32
-}
-
 impl Day {
     // The day of a slot, from its four bytes, the high byte first.
     pub fn stored(a: u8, b: u8, c: u8, d: u8) -> Day
         ensures { λ r. ⌜ r ≡ storedDay a b c d ⌝ }
     {
-        Day(wide(a) * 16777216 + wide(b) * 65536 + wide(c) * 256 + wide(d))
+        Day(text::wide(a) * 16777216 + text::wide(b) * 65536 + text::wide(c) * 256 + text::wide(d))
     }
 
     // The four bytes of a day in a slot.

@@ -1,5 +1,5 @@
 // A good line of each kind, and the ways in which a case changes one. Where a field lies is taken from layout's tables.
-use crate::places;
+use layout::table;
 use layout::table::HEADER;
 use layout::table::RECORD;
 use layout::table::ROW;
@@ -16,7 +16,7 @@ pub enum Kind {
 pub const BAR: u8 = 124;
 
 // No table has more fields than the record's.
-const FIELDS: usize = places::RECORD_STAR + 1;
+const FIELDS: usize = table::RECORD_STAR + 1;
 
 // A number of a table, or 0 where there is none.
 fn nth(t: &[usize], i: usize) -> usize {
@@ -67,10 +67,10 @@ pub fn after(k: usize) -> usize {
 // How many bytes a line has: its star is the last.
 pub fn length(kind: Kind) -> usize {
     match kind {
-        Kind::Data => RECORD[3 * places::RECORD_STAR],
-        Kind::Guide => ROW[3 * places::ROW_STAR],
-        Kind::Head => HEADER[3 * places::STAR],
-        Kind::Tail => TRAILER[3 * places::STAR],
+        Kind::Data => RECORD[3 * table::RECORD_STAR],
+        Kind::Guide => ROW[3 * table::ROW_STAR],
+        Kind::Head => HEADER[3 * table::FRAME_STAR],
+        Kind::Tail => TRAILER[3 * table::FRAME_STAR],
     }
 }
 

@@ -1,21 +1,21 @@
 -- Turns of the loops that walk a list two and three numbers at a time: the pairs of letters, and the fields of a table.
 -- Assumes nothing.
 use mathlib.Core.Path.{_≡_, _∙_, refl, sym, ap}
-use mathlib.Core.Bool.{Bool, true, false, not, cond, _&&_, _||_}
+use mathlib.Core.Bool.{Bool, true, false, not, _&&_, _||_}
 use mathlib.Core.List.{List, [], _∷_}
 use Prim.Native.Nat.{ℕ, _+_, _-_, _≤_, _<_}
 use native.Mathlib.Omega.{arith}
 use lib.Dec.{eqb}
 use lib.ListN.{length, drop, getD, length-take, length-drop}
 use borrow.Author.Tests.{eqb-true, eq-eqb, ne-eqb}
-use Rattle.text.specs.declared.Class.the-variants.{Printable, Space}
-use Rattle.text.specs.Text.{allIn, blank, runOf, part}
+use Rattle.text.specs.declared.Class.the-variants.{Printable}
+use Rattle.text.specs.Text.{allIn, part}
 use Rattle.text.proofs.Laws.{left-at, and-left, and-right}
-use Rattle.text.proofs.PartLaws.{all-part, no-spaces-at}
+use Rattle.text.proofs.PartLaws.{all-part}
 use Rattle.layout.specs.Tables.{house, lowEnd, highEnd, parityLetter}
-use Rattle.layout.specs.Rules.{leftJustified, neededIn, pairIn, keeps, keepsOther, keepsFrame, fromZero, isWhole, faultBy, faultIn, orElse}
+use Rattle.layout.specs.Rules.{pairIn, keeps, keepsOther, keepsFrame, fromZero, isWhole, faultBy, faultIn, orElse}
 
-two-at : (s : List ℕ) (i : ℕ) → i + 1 < length s → drop i s ≡ getD s i 0 ∷ getD s (i + 1) 0 ∷ drop (i + 2) s
+pub two-at : (s : List ℕ) (i : ℕ) → i + 1 < length s → drop i s ≡ getD s i 0 ∷ getD s (i + 1) 0 ∷ drop (i + 2) s
 two-at s i h =
     let a : i < length s = omega arith in
     let e : i + 1 + 1 ≡ i + 2 = omega arith in
@@ -123,19 +123,3 @@ module _ (at n r : ℕ) (lax : Bool) (s f : List ℕ) (k : keeps r lax f ≡ tru
   pub kept-passes : isWhole n f ≡ true → faultBy at n r lax s f ≡ 0
   unfolding faultBy keeps keepsOther keepsFrame
   kept-passes w = rw (w, not-number house refl, not-number lowEnd refl, not-number highEnd refl, not-number parityLetter refl, k)
-
--- a field of one byte is that byte
-pub alone : (f : List ℕ) {b : ℕ} → length f ≡ 1 → b ≡ getD f 0 0 → f ≡ b ∷ []
-alone [] h e = absurd (omega arith)
-alone (a ∷ []) h e = ap (λ x. x ∷ []) (sym e)
-alone (a ∷ c ∷ f) h e = absurd (omega arith)
-
--- text that is there is left-justified, and is what a rule needs
-no-space : (b : ℕ) → not (eqb b 32) ≡ true → b ≡ 32 → ⊥
-no-space b h e = never (rw (eq-eqb b 32 e) at h)
-
-pub text-there : (f : List ℕ) {b : ℕ} → b ≡ getD f 0 0 → not (eqb b 32) ≡ true → leftJustified f ≡ true
-text-there f {b} e h = rw (no-spaces-at f e (no-space b h))
-
-pub need-there : (lax : Bool) (f : List ℕ) {b : ℕ} → b ≡ getD f 0 0 → not (eqb b 32) ≡ true → neededIn lax f ≡ true
-need-there lax f {b} e h = rw (no-spaces-at f e (no-space b h))

@@ -236,8 +236,14 @@ community = 9
 abbrev pub state : ℕ
 state = 10
 
+abbrev pub location : ℕ
+location = 11
+
 abbrev pub esn : ℕ
 esn = 16
+
+abbrev pub mainNpa : ℕ
+mainNpa = 17
 
 abbrev pub date : ℕ
 date = 20
@@ -247,6 +253,12 @@ companyId = 22
 
 abbrev pub source : ℕ
 source = 23
+
+abbrev pub zip : ℕ
+zip = 24
+
+abbrev pub z : ℕ
+z = 31
 
 -- those of the guide row,
 

@@ -1,13 +1,11 @@
 // The rules of the fields, and the one checker that holds a line against its table.
 ghost use mathlib.Core.Path.{_≡_};
-ghost use mathlib.Core.Bool.{Bool, true};
-ghost use mathlib.Core.List.{List, [], _∷_};
-ghost use Prim.Native.Nat.{ℕ};
-ghost use lib.ListN.{length, getD};
+ghost use mathlib.Core.Bool.{true};
+ghost use lib.ListN.{length};
 ghost use Rattle.text.specs.declared.Class.the-variants.{Printable};
-ghost use Rattle.text.specs.Text.{allIn, part};
+ghost use Rattle.text.specs.Text.{allIn};
 ghost use Rattle.layout.specs.Rules.{leftJustified, neededIn, spared, pairIn, isDirection, isDate, isCycle, isTally, keepsFrame, keepsOther, keeps};
-ghost use Rattle.layout.specs.Rules.{houseFault, endFault, highFault, parityFault, isWhole, faultBy, fromZero, faultIn, isLax, recordFault, rowFault, orElse};
+ghost use Rattle.layout.specs.Rules.{houseFault, endFault, highFault, parityFault, isWhole, faultBy, fromZero, faultIn};
 use crate::counter;
 use crate::counter::Tally;
 use crate::counter::Turn;
@@ -51,7 +49,7 @@ fn is_left(f: &[u8]) -> bool
 }
 
 // Blank, where it may be.
-fn is_spared(lax: bool, f: &[u8]) -> bool
+pub fn is_spared(lax: bool, f: &[u8]) -> bool
     ensures { λ r. ⌜ r ≡ spared lax (now (f .entry)) ⌝ }
 {
     if lax {
@@ -99,7 +97,7 @@ fn is_direction(f: &[u8]) -> bool
     )
 }
 
-fn is_date(f: &[u8]) -> bool
+pub fn is_date(f: &[u8]) -> bool
     ensures { λ r. ⌜ r ≡ isDate (now (f .entry)) ⌝ }
 {
     let Date::Day(_) = calendar::day_in(f) else {
@@ -266,8 +264,8 @@ fn from_zero(at: usize) -> usize
     at - 1
 }
 
-// The first fault, field by field.
-fn walk_fault(table: &[usize], lax: bool, line: &[u8]) -> usize
+// The first byte, from 1, of the first field that breaks its rule; 0 where each field of the table keeps its own.
+pub fn first_fault(table: &[usize], lax: bool, line: &[u8]) -> usize
     ensures { λ r. ⌜ r ≡ faultIn lax (now (line .entry)) (now (table .entry)) ⌝ }
 {
     let mut i = 0;
@@ -283,122 +281,4 @@ fn walk_fault(table: &[usize], lax: bool, line: &[u8]) -> usize
         i += 3;
     }
     0
-}
-
-// Whether a field of one byte keeps its rule, where that is a rule of one byte.
-fn keeps_one(rule: usize, b: u8) -> bool
-    ensures { λ r. ⌜ (r ≡ true → (lax : Bool) → keeps rule lax (b ∷ []) ≡ true) ⌝ }
-{
-    match rule {
-        CODE => text::member(b"CDIUM", b),
-        ONE_DIGIT => text::in_class(Class::Digit, b),
-        ZERO_TO_FIVE => text::member(b"012345", b),
-        SPACE_OR_C => text::member(b" C", b),
-        STAR => text::member(b"*", b),
-        ROW_CODE => text::member(b"ID", b),
-        _ => false,
-    }
-}
-
-// Whether b, the first of n bytes, shows already that their rule is kept: they are free, or text that is there, or b alone.
-fn is_seen(n: usize, rule: usize, b: u8) -> bool
-    ensures { λ r. ⌜ (r ≡ true → (lax : Bool) (f : List ℕ) → length f ≡ n → b ≡ getD f 0 0 → keeps rule lax f ≡ true) ⌝ }
-{
-    if rule == TEXT {
-        return b != 32;
-    }
-    if rule == FREE {
-        return true;
-    }
-    if rule == NAMED {
-        return b != 32;
-    }
-    if n == 1 {
-        return keeps_one(rule, b);
-    }
-    false
-}
-
-// Whether a field of printable bytes has no fault. Text that is there was seen; most of what is left is blank.
-fn does_pass(at: usize, rule: usize, lax: bool, line: &[u8], f: &[u8]) -> bool
-    requires { ⌜ allIn Printable (now f) ≡ true ⌝ }
-    ensures { λ r. ⌜ (r ≡ true → faultBy at (length (now (f .entry))) rule lax (now (line .entry)) (now (f .entry)) ≡ 0) ⌝ }
-{
-    if rule == TEXT {
-        return is_left(f);
-    }
-    if rule == DIRECTION {
-        return is_direction(f);
-    }
-    rule_fault(at, rule, lax, line, f) == 0
-}
-
-// Whether the field of n bytes at a position is in the line, and passes.
-fn passes_at(at: usize, n: usize, rule: usize, lax: bool, line: &[u8]) -> bool
-    requires { ⌜ allIn Printable (now line) ≡ true ⌝ }
-    ensures { λ r. ⌜ (r ≡ true → faultBy at n rule lax (now (line .entry)) (part (fromZero at) n (now (line .entry))) ≡ 0) ⌝ }
-{
-    if 1 <= at {
-        let a = at - 1;
-        if a <= line.len() {
-            if n <= line.len() - a {
-                let e = a + n;
-                if is_seen(n, rule, text::byte_of(&line[a..e], 0)) {
-                    return true;
-                }
-                return does_pass(at, rule, lax, line, &line[a..e]);
-            }
-        }
-    }
-    false
-}
-
-// Whether every field of a line of printable bytes passes.
-fn all_pass(table: &[usize], lax: bool, line: &[u8]) -> bool
-    requires { ⌜ allIn Printable (now line) ≡ true ⌝ }
-    ensures { λ r. ⌜ (r ≡ true → faultIn lax (now (line .entry)) (now (table .entry)) ≡ 0) ⌝ }
-{
-    let mut i = 0;
-    while i + 2 < table.len() {
-        if passes_at(table[i], table[i + 1], table[i + 2], lax, line) {
-            i += 3;
-        } else {
-            return false;
-        }
-    }
-    true
-}
-
-// The first byte, from 1, of the first field that breaks its rule; 0 where each field of the table keeps its own. Nearly all lines are
-// good: one look at all of their bytes at a time spares a look at those of each field, and the fault is sought only where there is one.
-pub fn first_fault(table: &[usize], lax: bool, line: &[u8]) -> usize
-    ensures { λ r. ⌜ r ≡ faultIn lax (now (line .entry)) (now (table .entry)) ⌝ }
-{
-    if text::all_in(line, Class::Printable) {
-        if all_pass(table, lax, line) {
-            return 0;
-        }
-    }
-    walk_fault(table, lax, line)
-}
-
-// D and U may leave some fields blank.
-fn is_lax_code(b: u8) -> bool
-    ensures { λ r. ⌜ r ≡ isLax b ⌝ }
-{
-    (b == 68) | (b == 85)
-}
-
-// The first fault of a data record, by its table.
-pub fn record_fault(table: &[usize], rec: &[u8]) -> usize
-    ensures { λ r. ⌜ r ≡ recordFault (now (table .entry)) (now (rec .entry)) ⌝ }
-{
-    first_fault(table, is_lax_code(field::function(rec)), rec)
-}
-
-// The first fault of a guide row, by its table.
-pub fn row_fault(table: &[usize], row: &[u8]) -> usize
-    ensures { λ r. ⌜ r ≡ rowFault (now (table .entry)) (now (row .entry)) ⌝ }
-{
-    first_fault(table, false, row)
 }

@@ -4,4 +4,5 @@ pub mod check;
 pub mod counter;
 pub mod field;
 pub mod frame;
+pub mod place;
 pub mod table;

@@ -317,7 +317,13 @@ pub const CALLING_NUMBER: usize = 2;
 
 pub const HOUSE_NUMBER: usize = 3;
 
+pub const HOUSE_SUFFIX: usize = 4;
+
 pub const PREFIX: usize = 5;
+
+pub const STREET_NAME: usize = 6;
+
+pub const STREET_SUFFIX: usize = 7;
 
 pub const POST: usize = 8;
 
@@ -325,16 +331,64 @@ pub const COMMUNITY: usize = 9;
 
 pub const STATE: usize = 10;
 
+pub const LOCATION: usize = 11;
+
+pub const CUSTOMER_NAME: usize = 12;
+
+pub const CLASS: usize = 13;
+
+pub const TYPE: usize = 14;
+
+pub const EXCHANGE: usize = 15;
+
 pub const ESN: usize = 16;
 
+pub const MAIN_NPA: usize = 17;
+
+pub const MAIN_NUMBER: usize = 18;
+
+pub const ORDER: usize = 19;
+
 pub const DATE: usize = 20;
+
+pub const COUNTY: usize = 21;
 
 pub const COMPANY_ID: usize = 22;
 
 pub const SOURCE: usize = 23;
 
+pub const ZIP: usize = 24;
+
+pub const ZIP_4: usize = 25;
+
+pub const GENERAL_USE: usize = 26;
+
+pub const CUSTOMER_CODE: usize = 27;
+
+pub const COMMENTS: usize = 28;
+
+pub const X: usize = 29;
+
+pub const Y: usize = 30;
+
+pub const Z: usize = 31;
+
+pub const CELL: usize = 32;
+
+pub const SECTOR: usize = 33;
+
+pub const TAR: usize = 34;
+
+pub const RESERVED: usize = 35;
+
+pub const RECORD_STAR: usize = 36;
+
 // those of the guide row,
 pub const ROW_PREFIX: usize = 0;
+
+pub const ROW_STREET: usize = 1;
+
+pub const ROW_SUFFIX: usize = 2;
 
 pub const ROW_POST: usize = 3;
 
@@ -350,7 +404,11 @@ pub const PARITY: usize = 8;
 
 pub const ROW_ESN: usize = 9;
 
+pub const ROW_FREE: usize = 10;
+
 pub const ROW_FUNCTION: usize = 11;
+
+pub const ROW_STAR: usize = 12;
 
 // and those of header and trailer.
 pub const OPENER: usize = 0;

@@ -4,12 +4,9 @@ use crate::lists::Task;
 use case_lines::lines;
 use case_lines::lines::Kind;
 use case_lines::out;
-use layout::check;
 use layout::frame;
 use layout::frame::Closed;
 use layout::table::HEADER;
-use layout::table::RECORD;
-use layout::table::ROW;
 use layout::table::TRAILER;
 
 const EQUALS: u8 = 61;
@@ -24,8 +21,8 @@ pub fn closed(s: &[u8]) -> Closed {
 // What the line's own checker says.
 fn judge(kind: Kind, s: &[u8]) {
     match kind {
-        Kind::Data => out::ends_in_number(check::record_fault(&RECORD, s) as u64),
-        Kind::Guide => out::ends_in_number(check::row_fault(&ROW, s) as u64),
+        Kind::Data => out::ends_in_number(faults::record_fault(s) as u64),
+        Kind::Guide => out::ends_in_number(faults::row_fault(s) as u64),
         Kind::Head => out::ends_in_header(frame::header_in(&HEADER, s)),
         Kind::Tail => out::ends_in_trailer(closed(s)),
     }

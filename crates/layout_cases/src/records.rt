@@ -2,7 +2,6 @@
 use crate::cases;
 use crate::lists;
 use case_lines::lines::Kind;
-use case_lines::places;
 use layout::table;
 
 // 003's type letters are no rule, and lower case is good in text.
@@ -21,7 +20,7 @@ fn fields() {
 }
 
 fn comment(b: u8) {
-    cases::byte(Kind::Data, b"Comments", places::COMMENTS, 2, b);
+    cases::byte(Kind::Data, b"Comments", table::COMMENTS, 2, b);
 }
 
 // Every byte is 20 to 7E hex.
@@ -40,28 +39,28 @@ fn coded(c: &[u8], name: &[u8], k: usize, bytes: &[u8]) {
 
 // Five fields are blank only in D and U, and two in no code. Blank in I comes with the fields.
 fn blanks(c: &[u8]) {
-    coded(c, b"Street Name", places::STREET_NAME, b"");
+    coded(c, b"Street Name", table::STREET_NAME, b"");
     coded(c, b"Community", table::COMMUNITY, b"");
     coded(c, b"State", table::STATE, b"");
-    coded(c, b"Class", places::CLASS, b"");
-    coded(c, b"Type", places::TYPE, b"");
+    coded(c, b"Class", table::CLASS, b"");
+    coded(c, b"Type", table::TYPE, b"");
     coded(c, b"Date", table::DATE, b"");
     coded(c, b"Company ID", table::COMPANY_ID, b"");
 }
 
 // In D and U those five are blank or fully good.
 fn blank_or_good() {
-    coded(b"D", b"Street Name", places::STREET_NAME, b" A");
+    coded(b"D", b"Street Name", table::STREET_NAME, b" A");
     coded(b"U", b"Community", table::COMMUNITY, b" A");
     coded(b"D", b"State", table::STATE, b"O");
-    coded(b"U", b"Class", places::CLASS, b"A");
-    coded(b"D", b"Type", places::TYPE, b"6");
+    coded(b"U", b"Class", table::CLASS, b"A");
+    coded(b"D", b"Type", table::TYPE, b"6");
 }
 
 // Of two faults the first by position counts.
 fn first_of_two() {
     let kind = Kind::Data;
-    coded(b"X", b"star", places::RECORD_STAR, b"x");
+    coded(b"X", b"star", table::RECORD_STAR, b"x");
     cases::two(
         kind,
         b"State",
@@ -74,10 +73,10 @@ fn first_of_two() {
     cases::two(
         kind,
         b"Class",
-        places::CLASS,
+        table::CLASS,
         b"A",
         b"Type",
-        places::TYPE,
+        table::TYPE,
         b"6",
     );
 }

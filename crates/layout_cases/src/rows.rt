@@ -5,7 +5,6 @@ use crate::lists::Task;
 use case_lines::lines;
 use case_lines::lines::Kind;
 use case_lines::out;
-use case_lines::places;
 use layout::table;
 
 const DASH: u8 = 45;
@@ -74,7 +73,7 @@ fn coded(c: &[u8], name: &[u8], k: usize, bytes: &[u8]) {
 
 // D spares a row nothing.
 fn blanks_in_d() {
-    coded(b"D", b"Street", places::STREET, b"");
+    coded(b"D", b"Street", table::ROW_STREET, b"");
     coded(b"D", b"Community", table::ROW_COMMUNITY, b"");
     coded(b"D", b"State", table::ROW_STATE, b"");
     coded(b"D", b"Low", table::LOW, b"");

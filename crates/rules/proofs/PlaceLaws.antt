@@ -1,25 +1,21 @@
 -- Places of a store: what is written is read back, the other places stay, the length stays.
 -- Assumes nothing.
-use mathlib.Core.Path.{_≡_, refl, sym, ap, _∙_, subst}
+use mathlib.Core.Path.{_≡_, sym, ap, _∙_, subst}
 use mathlib.Core.Logic.{_≢_}
 use mathlib.Core.Bool.{Bool}
-use mathlib.Core.List.{List, [], _∷_, _++_}
-use Prim.Native.Nat.{ℕ, zero, suc, _+_, _*_, _-_, _≤_, _<_}
-use native.Mathlib.Nat.{mul-le-mul-right, zero-add, suc-add, add-sub-cancel-left}
+use mathlib.Core.List.{List, _++_}
+use Prim.Native.Nat.{ℕ, suc, _+_, _*_, _-_, _≤_, _<_}
+use native.Mathlib.Nat.{mul-le-mul-right, add-sub-cancel-left}
 use native.Mathlib.Decide.{decLt}
 use native.Mathlib.Omega.{arith}
 use lib.ListN.{length, take, drop, length-take, length-drop, length-append}
-use lib.Seq.{take-at, drop-at, take-take, drop-drop, length-take-le, take-nil}
+use lib.Seq.{take-at, drop-at, take-take, drop-drop, length-take-le}
 use Rattle.text.specs.Text.{part}
+use Rattle.text.proofs.PartLaws.{take-drop}
 use Rattle.rules.specs.Slots.{place, withPlace}
 
 pub part-length : (a n : ℕ) (l : List ℕ) → a + n ≤ length l → length (part a n l) ≡ n
 part-length a n l h = length-take-le n (drop a l) (rw length-drop (omega arith))
-
-take-drop : (n a : ℕ) (l : List ℕ) → take n (drop a l) ≡ drop a (take (a + n) l)
-take-drop n zero l = rw zero-add refl
-take-drop n (suc a) [] = rw suc-add (take-nil n)
-take-drop n (suc a) (x ∷ xs) = rw suc-add (take-drop n a xs)
 
 -- ---- d with s in the place of the m bytes from b on, as a lent part comes back
 

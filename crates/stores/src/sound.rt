@@ -1,16 +1,13 @@
 // Whether register and guide are sound, slot by slot.
 ghost use mathlib.Core.Path.{_≡_};
 ghost use Prim.Native.Nat.{_<_};
-ghost use Rattle.layout.specs.Tables.{dataRecord, guideRow};
 ghost use Rattle.rules.specs.Walks.{sought};
 ghost use Rattle.rules.specs.Slots.{goodLength, slotSize, slots, isEntryCode, fitsSlot, dayFits, usedSound, isUnsound, unsoundSlot, registerSound, rowSlots, presentSound, isRowUnsound, unsoundRowSlot, guideSound};
 use crate::guide;
 use crate::register;
 use calendar::Date;
 use calendar::Day;
-use layout::check;
 use layout::field;
-use layout::table;
 use rules::Found;
 use rules::Sought;
 
@@ -37,11 +34,10 @@ fn is_entry_code(b: u8) -> bool
 }
 
 // A record that may stand in a slot.
-fn does_fit(fields: &[usize], rec: &[u8]) -> bool
-    requires { ⌜ now fields ≡ dataRecord ⌝ }
+fn does_fit(rec: &[u8]) -> bool
     ensures { λ r. ⌜ r ≡ fitsSlot (now (rec .entry)) ⌝ }
 {
-    if check::record_fault(fields, rec) != 0 {
+    if faults::record_fault(rec) != 0 {
         return false;
     }
     is_entry_code(field::function(rec)) & field::has_esn(rec)
@@ -53,15 +49,14 @@ fn does_day_fit(state: u8, day: Day, date: Day) -> bool
     !day.is_before(date) & ((!(state == 1) | !date.is_before(day)) & day.is_on_calendar())
 }
 
-fn is_used_sound(fields: &[usize], slot: &[u8]) -> bool
-    requires { ⌜ now fields ≡ dataRecord ⌝ }
+fn is_used_sound(slot: &[u8]) -> bool
     ensures { λ r. ⌜ r ≡ usedSound (now (slot .entry)) ⌝ }
 {
     let state = register::state(slot);
     if register::is_used(state) {
         if text::all_equal(text::part_of(slot, 5, 3), 0) {
             let rec = register::rec(slot);
-            if does_fit(fields, rec) {
+            if does_fit(rec) {
                 let Date::Day(date) = field::date(rec) else {
                     return false;
                 };
@@ -72,19 +67,17 @@ fn is_used_sound(fields: &[usize], slot: &[u8]) -> bool
     false
 }
 
-fn is_unsound(fields: &[usize], slot: &[u8]) -> bool
-    requires { ⌜ now fields ≡ dataRecord ⌝ }
+fn is_unsound(slot: &[u8]) -> bool
     ensures { λ r. ⌜ r ≡ isUnsound (now (slot .entry)) ⌝ }
 {
     if register::state(slot) == 0 {
         return !text::all_equal(slot, 0);
     }
-    !is_used_sound(fields, slot)
+    !is_used_sound(slot)
 }
 
 // The lowest slot of the register that is not sound.
-fn find_unsound(fields: &[usize], register: &[u8]) -> Sought
-    requires { ⌜ now fields ≡ dataRecord ⌝ }
+fn find_unsound(register: &[u8]) -> Sought
     ensures { λ r. ⌜ r ≡ sought (unsoundSlot (now (register .entry))) (slots (now (register .entry))) ⌝ }
 {
     let n = register.len() / register::SLOT;
@@ -92,7 +85,7 @@ fn find_unsound(fields: &[usize], register: &[u8]) -> Sought
     while i < n {
         let a = i * register::SLOT;
         let e = a + register::SLOT;
-        if is_unsound(fields, &register[a..e]) {
+        if is_unsound(&register[a..e]) {
             return Sought {
                 found: Found::At(i),
                 looked: i + 1,
@@ -110,8 +103,7 @@ pub fn is_register_sound(register: &[u8]) -> bool
     ensures { λ r. ⌜ r ≡ registerSound (now (register .entry)) ⌝ }
 {
     if is_register_long(register) {
-        let fields: &[usize] = &table::RECORD;
-        let sought = find_unsound(fields, register);
+        let sought = find_unsound(register);
         let found = sought.found;
         let Found::At(_) = found else {
             return true;
@@ -120,14 +112,13 @@ pub fn is_register_sound(register: &[u8]) -> bool
     false
 }
 
-fn is_present_sound(fields: &[usize], slot: &[u8]) -> bool
-    requires { ⌜ now fields ≡ guideRow ⌝ }
+fn is_present_sound(slot: &[u8]) -> bool
     ensures { λ r. ⌜ r ≡ presentSound (now (slot .entry)) ⌝ }
 {
     if guide::is_present(slot) {
         if text::all_equal(text::part_of(slot, 1, 7), 0) {
             let row = guide::row(slot);
-            if check::row_fault(fields, row) != 0 {
+            if faults::row_fault(row) != 0 {
                 return false;
             }
             return field::row_function(row) == 73;
@@ -136,19 +127,17 @@ fn is_present_sound(fields: &[usize], slot: &[u8]) -> bool
     false
 }
 
-fn is_row_unsound(fields: &[usize], slot: &[u8]) -> bool
-    requires { ⌜ now fields ≡ guideRow ⌝ }
+fn is_row_unsound(slot: &[u8]) -> bool
     ensures { λ r. ⌜ r ≡ isRowUnsound (now (slot .entry)) ⌝ }
 {
     if guide::is_vacant(slot) {
         return !text::all_equal(slot, 0);
     }
-    !is_present_sound(fields, slot)
+    !is_present_sound(slot)
 }
 
 // The lowest slot of the guide that is not sound.
-fn find_unsound_row(fields: &[usize], guide: &[u8]) -> Sought
-    requires { ⌜ now fields ≡ guideRow ⌝ }
+fn find_unsound_row(guide: &[u8]) -> Sought
     ensures { λ r. ⌜ r ≡ sought (unsoundRowSlot (now (guide .entry))) (rowSlots (now (guide .entry))) ⌝ }
 {
     let n = guide.len() / guide::SLOT;
@@ -156,7 +145,7 @@ fn find_unsound_row(fields: &[usize], guide: &[u8]) -> Sought
     while i < n {
         let a = i * guide::SLOT;
         let e = a + guide::SLOT;
-        if is_row_unsound(fields, &guide[a..e]) {
+        if is_row_unsound(&guide[a..e]) {
             return Sought {
                 found: Found::At(i),
                 looked: i + 1,
@@ -174,8 +163,7 @@ pub fn is_guide_sound(guide: &[u8]) -> bool
     ensures { λ r. ⌜ r ≡ guideSound (now (guide .entry)) ⌝ }
 {
     if is_good_length(guide, guide::SLOT) {
-        let fields: &[usize] = &table::ROW;
-        let sought = find_unsound_row(fields, guide);
+        let sought = find_unsound_row(guide);
         let found = sought.found;
         let Found::At(_) = found else {
             return true;

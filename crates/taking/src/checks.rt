@@ -2,8 +2,7 @@
 ghost use mathlib.Core.Path.{_≡_};
 ghost use Prim.Native.Nat.{_≤_};
 ghost use lib.ListN.{length};
-ghost use Rattle.rules.specs.Takes.{lineTable, lineFault, linesIn, goodFile, headerLine, trailerLine, lineAt, refuse, linesChecked, trailerChecked, frameChecked, checked};
-use layout::check;
+ghost use Rattle.rules.specs.Takes.{lineFault, linesIn, goodFile, headerLine, trailerLine, lineAt, refuse, linesChecked, trailerChecked, frameChecked, checked};
 use layout::counter::Cycle;
 use layout::frame;
 use layout::frame::Closed;
@@ -71,25 +70,24 @@ fn is_good_file(kind: Kind, file: &[u8]) -> bool
     }
 }
 
-// The first fault of a record or a row; the table is handed in, so that it is made once a file.
-fn line_fault(kind: Kind, fields: &[usize], line: &[u8]) -> usize
-    requires { ⌜ now fields ≡ lineTable kind ⌝ }
+// The first fault of a record or a row.
+fn line_fault(kind: Kind, line: &[u8]) -> usize
     ensures { λ r. ⌜ (r ≡ lineFault kind (now (line .entry))) × (r ≤ 512) ⌝ }
 {
     match kind {
-        Kind::Data => check::record_fault(fields, line),
-        Kind::Guide => check::row_fault(fields, line),
+        Kind::Data => faults::record_fault(line),
+        Kind::Guide => faults::row_fault(line),
     }
 }
 
 // 9: the first line that breaks a field rule.
-fn check_lines(kind: Kind, fields: &[usize], file: &[u8], n: usize, h: Header) -> Checked
-    requires { ⌜ (now fields ≡ lineTable kind) × ((n ≡ linesIn kind (now file)) × (n ≤ 9999)) ⌝ }
+fn check_lines(kind: Kind, file: &[u8], n: usize, h: Header) -> Checked
+    requires { ⌜ (n ≡ linesIn kind (now file)) × (n ≤ 9999) ⌝ }
     ensures { λ r. ⌜ r ≡ linesChecked kind (now (file .entry)) h ⌝ }
 {
     let mut i: usize = 0;
     while i < n {
-        let fault = line_fault(kind, fields, line_at(kind, file, i));
+        let fault = line_fault(kind, line_at(kind, file, i));
         if fault != 0 {
             return Checked::Refused(Refusal {
                 number: 9,
@@ -100,22 +98,6 @@ fn check_lines(kind: Kind, fields: &[usize], file: &[u8], n: usize, h: Header) -
         i += 1;
     }
     Checked::Good(h)
-}
-
-fn check_all(kind: Kind, file: &[u8], n: usize, h: Header) -> Checked
-    requires { ⌜ (n ≡ linesIn kind (now file)) × (n ≤ 9999) ⌝ }
-    ensures { λ r. ⌜ r ≡ linesChecked kind (now (file .entry)) h ⌝ }
-{
-    match kind {
-        Kind::Data => {
-            let fields: &[usize] = &table::RECORD;
-            check_lines(Kind::Data, fields, file, n, h)
-        }
-        Kind::Guide => {
-            let fields: &[usize] = &table::ROW;
-            check_lines(Kind::Guide, fields, file, n, h)
-        }
-    }
 }
 
 fn header_line(file: &[u8]) -> &[u8]
@@ -145,7 +127,7 @@ fn check_trailer(kind: Kind, file: &[u8], h: Header) -> Checked
     };
     let n = lines_in(kind, file);
     if count.is(n) {
-        return check_all(kind, file, n, h);
+        return check_lines(kind, file, n, h);
     }
     refused(8)
 }

@@ -94,13 +94,13 @@ same-part-not s t i n h = go (sameBytes s t) refl
     go true e = sym (same-refl (part i n s)) ∙ ap (λ x. sameBytes (part i n s) (part i n x)) (same-true s t e) ∙ h
     go false e = refl
 
--- eight bytes from i on are there, where eight are left at i
-pub eight-left : (i n : ℕ) → i ≤ n → leb 8 (n - i) ≡ leb (i + 8) n
-eight-left i n h = go (leb 8 (n - i)) refl
+-- k bytes from i on are there, where k are left at i
+pub left-there : (i k n : ℕ) → i ≤ n → leb k (n - i) ≡ leb (i + k) n
+left-there i k n h = go (leb k (n - i)) refl
   where
-    go : (v : Bool) → leb 8 (n - i) ≡ v → v ≡ leb (i + 8) n
-    go true e = sym (le-leb (i + 8) n (omega (arith, leb-true 8 (n - i) e, h)))
-    go false e = sym (lt-leb (i + 8) n (omega (arith, leb-false 8 (n - i) e, h)))
+    go : (v : Bool) → leb k (n - i) ≡ v → v ≡ leb (i + k) n
+    go true e = sym (le-leb (i + k) n (omega (arith, leb-true k (n - i) e, h)))
+    go false e = sym (lt-leb (i + k) n (omega (arith, leb-false k (n - i) e, h)))
 
 -- eight bytes that are there and not the same tell two lists apart
 pub eight-not : (s t : List ℕ) (i : ℕ) → i + 8 ≤ length s → i + 8 ≤ length t → eightSame i s t ≡ false → sameBytes s t ≡ false

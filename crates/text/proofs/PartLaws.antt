@@ -6,12 +6,14 @@ use mathlib.Core.List.{List, [], _∷_}
 use Prim.Native.Nat.{ℕ, zero, suc, _+_, _*_, _-_, _≤_, _<_}
 use native.Mathlib.Omega.{arith}
 use lib.Dec.{eqb}
+use native.Mathlib.Nat.{zero-add, suc-add}
 use lib.ListN.{length, take, drop, getD}
-use borrow.Author.Tests.{eq-eqb, ne-eqb}
+use lib.Seq.{take-take, drop-drop, take-nil}
+use borrow.Author.Tests.{eq-eqb, ne-eqb, eqb-true, eqb-false}
 use Rattle.text.specs.declared.Class.{Class}
 use Rattle.text.specs.declared.Class.the-variants.{Space, Digit}
 use Rattle.text.specs.declared.Spelled.the-variants.{Number, NoNumber}
-use Rattle.text.specs.Text.{inClass, allIn, runOf, runsOf, digitOf, spelled, part}
+use Rattle.text.specs.Text.{inClass, allIn, blank, runOf, runsOf, digitOf, spelled, part}
 use Rattle.text.proofs.Laws.{and-left, and-right, left-at}
 
 -- what holds of all bytes holds of the first n, and of those behind them
@@ -44,6 +46,36 @@ all-meet k zero (suc b) s h = absurd (omega arith)
 all-meet k (suc a) (suc b) [] h = refl
 all-meet k (suc a) (suc b) (x ∷ s) h =
     and-assoc (inClass k x) (allIn k (take a s)) (allIn k (drop b s)) ∙ ap (λ v. inClass k x && v) (all-meet k a b s (omega arith))
+
+-- the first n of those behind a, as those behind a of the first
+pub take-drop : (n a : ℕ) (l : List ℕ) → take n (drop a l) ≡ drop a (take (a + n) l)
+take-drop n zero l = rw zero-add refl
+take-drop n (suc a) [] = rw suc-add (take-nil n)
+take-drop n (suc a) (x ∷ xs) = rw suc-add (take-drop n a xs)
+
+-- so for a part of n bytes: its first k and its last k are all of them
+pub all-ends : (c : Class) (i n k : ℕ) (s : List ℕ) → k ≤ n → n ≤ k + k → allIn c (part i k s) ≡ true → allIn c (part (i + (n - k)) k s) ≡ true
+    → allIn c (part i n s) ≡ true
+all-ends c i n k s h m a b =
+    let e : n - k + k ≡ n = omega arith in
+    let x : take k (part i n s) ≡ part i k s = take-take k n (drop i s) h in
+    let y : drop (n - k) (part i n s) ≡ part (i + (n - k)) k s =
+    ap (λ j. drop (n - k) (take j (drop i s))) (sym e) ∙ sym (take-drop k (n - k) (drop i s)) ∙ ap (take k) (drop-drop (n - k) i s) in
+    sym (all-meet c k (n - k) (part i n s) (omega arith)) ∙ rw (x, y, a, b)
+
+-- four bytes as one word
+pub four-spaces : (a b c d w : ℕ) → a ≤ 255 → b ≤ 255 → c ≤ 255 → d ≤ 255 → w ≡ a + b * 256 + c * 65536 + d * 16777216
+    → eqb w 538976288 ≡ blank (a ∷ b ∷ c ∷ d ∷ [])
+four-spaces a b c d w p q r t k = go (eqb a 32) (eqb b 32) (eqb c 32) (eqb d 32) refl refl refl refl
+  where
+    go : (u v x y : Bool) → eqb a 32 ≡ u → eqb b 32 ≡ v → eqb c 32 ≡ x → eqb d 32 ≡ y
+        → eqb w 538976288 ≡ (u && (v && (x && (y && true))))
+    go true true true true e f g h =
+        eq-eqb w 538976288 (omega (arith, k, eqb-true a 32 e, eqb-true b 32 f, eqb-true c 32 g, eqb-true d 32 h))
+    go false v x y e f g h = ne-eqb w 538976288 (λ z. absurd (omega (arith, k, z, eqb-false a 32 e)))
+    go true false x y e f g h = ne-eqb w 538976288 (λ z. absurd (omega (arith, k, z, eqb-false b 32 f)))
+    go true true false y e f g h = ne-eqb w 538976288 (λ z. absurd (omega (arith, k, z, eqb-false c 32 g)))
+    go true true true false e f g h = ne-eqb w 538976288 (λ z. absurd (omega (arith, k, z, eqb-false d 32 h)))
 
 -- spaces begin at a space, and nowhere else
 pub no-spaces-at : (s : List ℕ) {b : ℕ} → b ≡ getD s 0 0 → (b ≡ 32 → ⊥) → runOf Space s ≡ 0

@@ -91,9 +91,13 @@ allOf set (b ∷ s) = memberOf b set && allOf set s
 abbrev pub part : ℕ → ℕ → List ℕ → List ℕ
 part i n s = take n (drop i s)
 
+-- all of them are there
+abbrev pub there : ℕ → ℕ → List ℕ → Bool
+there i n s = leb (i + n) (length s)
+
 -- the eight bytes from i on are there, and the same in both
 unfoldable pub eightSame : ℕ → List ℕ → List ℕ → Bool
-eightSame i a b = (leb (i + 8) (length a) && leb (i + 8) (length b)) && sameBytes (part i 8 a) (part i 8 b)
+eightSame i a b = (there i 8 a && there i 8 b) && sameBytes (part i 8 a) (part i 8 b)
 
 -- ---- writing
 

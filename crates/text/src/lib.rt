@@ -3,10 +3,9 @@
 ghost use mathlib.Core.Path.{_≡_};
 ghost use mathlib.Core.List.{[], _∷_};
 ghost use Prim.Native.Nat.{_+_, _≤_, _<_, _^_};
-ghost use lib.Dec.{leb};
 ghost use lib.ListN.{length, drop, getD, replicate};
 ghost use Rattle.text.specs.Text.{inClass, allIn, allEqual, blank, runOf, runsOf, digitOf, valueOf, spelled};
-ghost use Rattle.text.specs.Text.{sameBytes, memberOf, allOf, part, eightSame, putAt, digits, width, amongSpaces, leftDigits, rightDigits};
+ghost use Rattle.text.specs.Text.{sameBytes, memberOf, allOf, part, there, eightSame, putAt, digits, width, amongSpaces, leftDigits, rightDigits};
 
 // The classes of bytes that the field rules name.
 pub enum Class {
@@ -76,6 +75,20 @@ pub fn is_blank(f: &[u8]) -> bool
     all_in(f, Class::Space)
 }
 
+// A byte as a number that has room for more.
+pub fn wide(b: u8) -> u32
+    ensures { λ r. ⌜ (r ≡ b) × (r ≤ 255) ⌝ }
+{
+    b as u32
+}
+
+// Whether four bytes are spaces. They are put together, so that they are compared as one word.
+pub fn are_spaces(a: u8, b: u8, c: u8, d: u8) -> bool
+    ensures { λ r. ⌜ r ≡ blank (a ∷ (b ∷ (c ∷ (d ∷ [])))) ⌝ }
+{
+    wide(a) + wide(b) * 256 + wide(c) * 65536 + wide(d) * 16777216 == 538976288
+}
+
 // How many bytes of the class it begins with.
 pub fn run(f: &[u8], k: Class) -> usize
     ensures { λ r. ⌜ (r ≡ runOf k (now (f .entry))) × (r ≤ length (now (f .entry))) ⌝ }
@@ -91,6 +104,13 @@ pub fn run(f: &[u8], k: Class) -> usize
     i
 }
 
+// Whether there are only spaces, byte by byte: behind a run there are few, too few for a loop with one way out.
+fn is_rest_blank(f: &[u8]) -> bool
+    ensures { λ r. ⌜ r ≡ blank (now (f .entry)) ⌝ }
+{
+    run(f, Class::Space) == f.len()
+}
+
 // From low to high bytes of the class, and then only spaces.
 pub fn runs(f: &[u8], k: Class, low: usize, high: usize) -> bool
     ensures { λ r. ⌜ r ≡ runsOf k low high (now (f .entry)) ⌝ }
@@ -102,7 +122,7 @@ pub fn runs(f: &[u8], k: Class, low: usize, high: usize) -> bool
     if high < n {
         return false;
     }
-    is_blank(&f[n..])
+    is_rest_blank(&f[n..])
 }
 
 fn digit(b: u8) -> u32
@@ -127,13 +147,6 @@ fn value(f: &[u8]) -> u32
         i += 1;
     }
     n
-}
-
-// Whether there are only spaces, byte by byte: behind the digits of a number there are few, too few for a loop with one way out.
-fn is_rest_blank(f: &[u8]) -> bool
-    ensures { λ r. ⌜ r ≡ blank (now (f .entry)) ⌝ }
-{
-    run(f, Class::Space) == f.len()
 }
 
 // What a field of digits spells: a number, or none.
@@ -262,12 +275,12 @@ pub fn part_of(s: &[u8], i: usize, n: usize) -> &[u8]
     &s[0..0]
 }
 
-// Whether there are eight bytes from i on.
-fn has_eight(s: &[u8], i: usize) -> bool
-    ensures { λ r. ⌜ r ≡ leb (i + 8) (length (now (s .entry))) ⌝ }
+// Whether the n bytes from i on are there.
+pub fn is_there(s: &[u8], i: usize, n: usize) -> bool
+    ensures { λ r. ⌜ r ≡ there i n (now (s .entry)) ⌝ }
 {
     if i <= s.len() {
-        return 8 <= s.len() - i;
+        return n <= s.len() - i;
     }
     false
 }
@@ -276,7 +289,7 @@ fn has_eight(s: &[u8], i: usize) -> bool
 pub fn are_eight_same(a: &[u8], b: &[u8], i: usize) -> bool
     ensures { λ r. ⌜ r ≡ eightSame i (now (a .entry)) (now (b .entry)) ⌝ }
 {
-    if has_eight(a, i) & has_eight(b, i) {
+    if is_there(a, i, 8) & is_there(b, i, 8) {
         return are_words_same(a, b, i);
     }
     false

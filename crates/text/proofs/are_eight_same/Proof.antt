@@ -6,23 +6,23 @@ use Rattle.text.proofs.Laws.{and-left, and-right}
 use Rattle.text.proofs.are_eight_same.Statement.{statement}
 use Rattle.text.proofs.are_eight_same.Tie as tie
 
-has-eight-requires : tie.Need-has-eight-requires
-has-eight-requires c κs = search needs
+is-there-requires : tie.Need-is-there-requires
+is-there-requires c κs = search needs
 
-has-eight-requires-2 : tie.Need-has-eight-requires-2
-has-eight-requires-2 c κs = search needs
+is-there-requires-2 : tie.Need-is-there-requires-2
+is-there-requires-2 c κs = search needs
 
 are-words-same-requires : tie.Need-are-words-same-requires
-are-words-same-requires c κs = (leb-true _ _ (sym (c .before .before .has-eight .ensures) ∙ and-left (c .before .before .has-eight .result) (c .before .has-eight2 .result) (c .if1 .taken)), leb-true _ _ (sym (c .before .has-eight2 .ensures) ∙ and-right (c .before .before .has-eight .result) (c .before .has-eight2 .result) (c .if1 .taken)))
+are-words-same-requires c κs = (leb-true _ _ (sym (c .before .before .is-there .ensures) ∙ and-left (c .before .before .is-there .result) (c .before .is-there2 .result) (c .if1 .taken)), leb-true _ _ (sym (c .before .is-there2 .ensures) ∙ and-right (c .before .before .is-there .result) (c .before .is-there2 .result) (c .if1 .taken)))
 
 returns : tie.Need-returns
 unfolding eightSame
-returns c = rw (← c .before .before .before .has-eight .ensures, ← c .before .before .has-eight2 .ensures, c .before .if1 .taken) (c .are-words-same .ensures)
+returns c = rw (← c .before .before .before .is-there .ensures, ← c .before .before .is-there2 .ensures, c .before .if1 .taken) (c .are-words-same .ensures)
 
 returns-2 : tie.Need-returns-2
 unfolding eightSame
-returns-2 c = rw (← c .before .before .has-eight .ensures, ← c .before .has-eight2 .ensures, c .if1 .left)
+returns-2 c = rw (← c .before .before .is-there .ensures, ← c .before .is-there2 .ensures, c .if1 .left)
 
 pub are-eight-same-spec : {M : Type 1} → statement M
 are-eight-same-spec =
-    tie.close (tie.spec has-eight-requires has-eight-requires-2 are-words-same-requires returns returns-2)
+    tie.close (tie.spec is-there-requires is-there-requires-2 are-words-same-requires returns returns-2)

@@ -16,21 +16,21 @@ returns-2 : tie.Need-returns-2
 unfolding runsOf
 returns-2 c = rw (← c .before .before .run .ensures .0, le-leb _ _ (c .before .if1 .left), lt-leb _ _ (c .if2 .taken))
 
-sub-is-blank : tie.Need-sub-is-blank
-sub-is-blank c = search needs
+sub-is-rest-blank : tie.Need-sub-is-rest-blank
+sub-is-rest-blank c = search needs
 
-part-is-blank-start : tie.Need-part-is-blank-start
-part-is-blank-start c = search needs
+part-is-rest-blank-start : tie.Need-part-is-rest-blank-start
+part-is-rest-blank-start c = search needs
 
-part-is-blank-end : tie.Need-part-is-blank-end
-part-is-blank-end c = search needs
+part-is-rest-blank-end : tie.Need-part-is-rest-blank-end
+part-is-rest-blank-end c = search needs
 
-is-blank-requires : tie.Need-is-blank-requires
-is-blank-requires c κs = search needs
+is-rest-blank-requires : tie.Need-is-rest-blank-requires
+is-rest-blank-requires c κs = search needs
 
 returns-3 : tie.Need-returns-3
 unfolding runsOf
-returns-3 c = rw (← c .before .before .before .before .run .ensures .0, le-leb _ _ (c .before .before .before .if1 .left), le-leb _ _ (c .before .before .if2 .left)) (rw rest-is at (c .is-blank .ensures))
+returns-3 c = rw (← c .before .before .before .before .run .ensures .0, le-leb _ _ (c .before .before .before .if1 .left), le-leb _ _ (c .before .before .if2 .left)) (rw rest-is at (c .is-rest-blank .ensures))
 
 pub runs-spec : {M : Type 1} → statement M
 runs-spec =
@@ -39,8 +39,8 @@ runs-spec =
     run-requires
     returns
     returns-2
-    sub-is-blank
-    part-is-blank-start
-    part-is-blank-end
-    is-blank-requires
+    sub-is-rest-blank
+    part-is-rest-blank-start
+    part-is-rest-blank-end
+    is-rest-blank-requires
     returns-3)

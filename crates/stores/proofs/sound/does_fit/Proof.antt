@@ -1,8 +1,5 @@
-use mathlib.Core.Path.{_∙_, ap}
-use denote.Ref.{now}
 use borrow.Author.Needs.{needs}
 use borrow.Author.Tests.{eq-eqb, ne-eqb}
-use Rattle.layout.specs.Rules.{recordFault}
 use Rattle.rules.specs.Slots.{fitsSlot}
 use Rattle.stores.proofs.sound.does_fit.Tie as tie
 use Rattle.stores.proofs.sound.does_fit.Statement.{statement}
@@ -12,8 +9,7 @@ record-fault-requires c κs = search needs
 
 returns : tie.Need-returns
 unfolding fitsSlot
-returns c = let e = c .before .record-fault .ensures ∙ ap (λ t. recordFault t (c .before .before .before .before .args .rec .now)) (c .before .before .before .before .pre) in
-    rw (← e, ne-eqb _ _ (c .if1 .taken))
+returns c = rw (← c .before .record-fault .ensures, ne-eqb _ _ (c .if1 .taken))
 
 function-requires : tie.Need-function-requires
 function-requires c κs = search needs
@@ -26,8 +22,7 @@ has-esn-requires c κs = search needs
 
 returns-2 : tie.Need-returns-2
 unfolding fitsSlot
-returns-2 c = let e = c .before .before .before .before .record-fault .ensures ∙ ap (λ t. recordFault t (c .before .before .before .before .before .before .before .args .rec .now)) (c .before .before .before .before .before .before .before .pre) in
-    rw (← e, eq-eqb _ _ (c .before .before .before .if1 .left), ← c .before .before .function .ensures, ← c .before .is-entry-code .ensures, ← c .has-esn .ensures)
+returns-2 c = rw (← c .before .before .before .before .record-fault .ensures, eq-eqb _ _ (c .before .before .before .if1 .left), ← c .before .before .function .ensures, ← c .before .is-entry-code .ensures, ← c .has-esn .ensures)
 
 pub does-fit-spec : {M : Type 1} → statement M
 does-fit-spec =

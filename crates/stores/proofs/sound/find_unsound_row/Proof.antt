@@ -9,10 +9,10 @@ use Rattle.stores.proofs.sound.find_unsound_row.Tie as tie
 use Rattle.stores.proofs.sound.find_unsound_row.Statement.{statement}
 
 abbrev Inv-loop : tie.InvT-loop
-Inv-loop fields guide n i₀ i = Passed (unsoundRowSlot guide) n i
+Inv-loop guide n i₀ i = Passed (unsoundRowSlot guide) n i
 
 abbrev μ-loop : tie.MeasureT-loop
-μ-loop fields guide n i₀ i = n - i
+μ-loop guide n i₀ i = n - i
 
 loop-holds : tie.Need-loop-holds Inv-loop μ-loop
 loop-holds c = passed-none _ _
@@ -35,12 +35,12 @@ part-is-row-unsound-end c = search needs
 is-row-unsound-requires : tie.Need-is-row-unsound-requires Inv-loop μ-loop
 is-row-unsound-requires c κs = search needs
 
-add-t15 : tie.Need-add-t15 Inv-loop μ-loop
-add-t15 c = search needs
+add-t14 : tie.Need-add-t14 Inv-loop μ-loop
+add-t14 c = search needs
 
 returns : tie.Need-returns Inv-loop μ-loop
 unfolding unsoundRowSlot
-returns c = passed-hit (unsoundRowSlot (c .before .before .before .before .before .before .before .args .guide .now)) (length (c .before .before .before .before .before .before .before .args .guide .now) / 208) (c .before .before .before .before .loop .i) (c .before .before .before .before .loop .inv) (c .before .before .before .loop-test .taken) (place-test 208 isRowUnsound (c .before .before .before .before .before .before .before .args .guide .now) (c .before .before .before .before .loop .i) (c .before .is-row-unsound .ensures) (c .if1 .taken))
+returns c = passed-hit (unsoundRowSlot (c .before .before .before .before .before .before .args .guide .now)) (length (c .before .before .before .before .before .before .args .guide .now) / 208) (c .before .before .before .before .loop .i) (c .before .before .before .before .loop .inv) (c .before .before .before .loop-test .taken) (place-test 208 isRowUnsound (c .before .before .before .before .before .before .args .guide .now) (c .before .before .before .before .loop .i) (c .before .is-row-unsound .ensures) (c .if1 .taken))
 
 add-i : tie.Need-add-i Inv-loop μ-loop
 add-i c = search needs
@@ -50,10 +50,10 @@ loop-less c = search needs
 
 loop-again : tie.Need-loop-again Inv-loop μ-loop
 unfolding unsoundRowSlot
-loop-again c = passed-more (unsoundRowSlot (c .before .before .before .before .before .before .before .args .guide .now)) (length (c .before .before .before .before .before .before .before .args .guide .now) / 208) (c .before .before .before .before .loop .i) (c .before .before .before .before .loop .inv) (c .before .before .before .loop-test .taken) (place-test 208 isRowUnsound (c .before .before .before .before .before .before .before .args .guide .now) (c .before .before .before .before .loop .i) (c .before .is-row-unsound .ensures) (c .if1 .left))
+loop-again c = passed-more (unsoundRowSlot (c .before .before .before .before .before .before .args .guide .now)) (length (c .before .before .before .before .before .before .args .guide .now) / 208) (c .before .before .before .before .loop .i) (c .before .before .before .before .loop .inv) (c .before .before .before .loop-test .taken) (place-test 208 isRowUnsound (c .before .before .before .before .before .before .args .guide .now) (c .before .before .before .before .loop .i) (c .before .is-row-unsound .ensures) (c .if1 .left))
 
 returns-2 : tie.Need-returns-2 Inv-loop μ-loop
-returns-2 c = passed-all (unsoundRowSlot (c .before .before .before .before .args .guide .now)) (length (c .before .before .before .before .args .guide .now) / 208) (c .before .loop .i) (c .before .loop .inv) (c .loop-test .left)
+returns-2 c = passed-all (unsoundRowSlot (c .before .before .before .args .guide .now)) (length (c .before .before .before .args .guide .now) / 208) (c .before .loop .i) (c .before .loop .inv) (c .loop-test .left)
 
 pub find-unsound-row-spec : {M : Type 1} → statement M
 find-unsound-row-spec =
@@ -68,7 +68,7 @@ find-unsound-row-spec =
     part-is-row-unsound-start
     part-is-row-unsound-end
     is-row-unsound-requires
-    add-t15
+    add-t14
     returns
     add-i
     loop-less

@@ -8,9 +8,6 @@ use Rattle.stores.proofs.sound.is_guide_sound.Statement.{statement}
 is-good-length-requires : tie.Need-is-good-length-requires
 is-good-length-requires c κs = search needs
 
-slice-aggregate-fields : tie.Need-slice-aggregate-fields
-slice-aggregate-fields c = search needs
-
 find-unsound-row-requires : tie.Need-find-unsound-row-requires
 find-unsound-row-requires c κs = search needs
 
@@ -23,12 +20,12 @@ enum-told-2 c = search needs
 returns : tie.Need-returns
 unfolding guideSound
 returns c = let e = ap (λ (x : Sought). x .found) (c .before .before .find-unsound-row .ensures) in
-    rw (← c .before .before .before .before .before .is-good-length .ensures, c .before .before .before .before .if1 .taken, ← e, c .enum-told2 .given .1)
+    rw (← c .before .before .before .before .is-good-length .ensures, c .before .before .before .if1 .taken, ← e, c .enum-told2 .given .1)
 
 returns-2 : tie.Need-returns-2
 unfolding guideSound
 returns-2 c = let e = ap (λ (x : Sought). x .found) (c .before .before .find-unsound-row .ensures) in
-    rw (← c .before .before .before .before .before .is-good-length .ensures, c .before .before .before .before .if1 .taken, ← e, c .enum-told .given .1)
+    rw (← c .before .before .before .before .is-good-length .ensures, c .before .before .before .if1 .taken, ← e, c .enum-told .given .1)
 
 returns-3 : tie.Need-returns-3
 unfolding guideSound
@@ -39,7 +36,6 @@ is-guide-sound-spec =
     tie.close
     (tie.spec
     is-good-length-requires
-    slice-aggregate-fields
     find-unsound-row-requires
     enum-told
     enum-told-2

@@ -1,8 +1,5 @@
-use mathlib.Core.Path.{_∙_, ap}
-use denote.Ref.{now}
 use borrow.Author.Needs.{needs}
 use borrow.Author.Tests.{eq-eqb, ne-eqb}
-use Rattle.layout.specs.Rules.{rowFault}
 use Rattle.rules.specs.Slots.{presentSound, isZero}
 use Rattle.stores.proofs.sound.is_present_sound.Tie as tie
 use Rattle.stores.proofs.sound.is_present_sound.Statement.{statement}
@@ -24,16 +21,14 @@ row-fault-requires c κs = search needs
 
 returns : tie.Need-returns
 unfolding presentSound isZero
-returns c = let e = c .before .row-fault .ensures ∙ ap (λ t. rowFault t (now (c .before .before .row .result))) (c .before .before .before .before .before .before .before .before .before .before .pre) in
-    rw (← c .before .before .before .before .before .before .before .is-present .ensures, c .before .before .before .before .before .before .if1 .taken, ← c .before .before .before .before .before .part-of .ensures, ← c .before .before .before .before .all-equal .ensures, c .before .before .before .if2 .taken, ← c .before .before .row .ensures, ← e, ne-eqb _ _ (c .if3 .taken))
+returns c = rw (← c .before .before .before .before .before .before .before .is-present .ensures, c .before .before .before .before .before .before .if1 .taken, ← c .before .before .before .before .before .part-of .ensures, ← c .before .before .before .before .all-equal .ensures, c .before .before .before .if2 .taken, ← c .before .before .row .ensures, ← c .before .row-fault .ensures, ne-eqb _ _ (c .if3 .taken))
 
 row-function-requires : tie.Need-row-function-requires
 row-function-requires c κs = search needs
 
 returns-2 : tie.Need-returns-2
 unfolding presentSound isZero
-returns-2 c = let e = c .before .before .row-fault .ensures ∙ ap (λ t. rowFault t (now (c .before .before .before .row .result))) (c .before .before .before .before .before .before .before .before .before .before .before .pre) in
-    rw (← c .before .before .before .before .before .before .before .before .is-present .ensures, c .before .before .before .before .before .before .before .if1 .taken, ← c .before .before .before .before .before .before .part-of .ensures, ← c .before .before .before .before .before .all-equal .ensures, c .before .before .before .before .if2 .taken, ← c .before .before .before .row .ensures, ← e, eq-eqb _ _ (c .before .if3 .left), ← c .row-function .ensures)
+returns-2 c = rw (← c .before .before .before .before .before .before .before .before .is-present .ensures, c .before .before .before .before .before .before .before .if1 .taken, ← c .before .before .before .before .before .before .part-of .ensures, ← c .before .before .before .before .before .all-equal .ensures, c .before .before .before .before .if2 .taken, ← c .before .before .before .row .ensures, ← c .before .before .row-fault .ensures, eq-eqb _ _ (c .before .if3 .left), ← c .row-function .ensures)
 
 returns-3 : tie.Need-returns-3
 unfolding presentSound isZero

@@ -8,9 +8,6 @@ use Rattle.stores.proofs.sound.is_register_sound.Statement.{statement}
 is-register-long-requires : tie.Need-is-register-long-requires
 is-register-long-requires c κs = search needs
 
-slice-aggregate-fields : tie.Need-slice-aggregate-fields
-slice-aggregate-fields c = search needs
-
 find-unsound-requires : tie.Need-find-unsound-requires
 find-unsound-requires c κs = search needs
 
@@ -23,12 +20,12 @@ enum-told-2 c = search needs
 returns : tie.Need-returns
 unfolding registerSound
 returns c = let e = ap (λ (x : Sought). x .found) (c .before .before .find-unsound .ensures) in
-    rw (← c .before .before .before .before .before .is-register-long .ensures, c .before .before .before .before .if1 .taken, ← e, c .enum-told2 .given .1)
+    rw (← c .before .before .before .before .is-register-long .ensures, c .before .before .before .if1 .taken, ← e, c .enum-told2 .given .1)
 
 returns-2 : tie.Need-returns-2
 unfolding registerSound
 returns-2 c = let e = ap (λ (x : Sought). x .found) (c .before .before .find-unsound .ensures) in
-    rw (← c .before .before .before .before .before .is-register-long .ensures, c .before .before .before .before .if1 .taken, ← e, c .enum-told .given .1)
+    rw (← c .before .before .before .before .is-register-long .ensures, c .before .before .before .if1 .taken, ← e, c .enum-told .given .1)
 
 returns-3 : tie.Need-returns-3
 unfolding registerSound
@@ -39,7 +36,6 @@ is-register-sound-spec =
     tie.close
     (tie.spec
     is-register-long-requires
-    slice-aggregate-fields
     find-unsound-requires
     enum-told
     enum-told-2

@@ -34,12 +34,12 @@ lines-in-requires c κs = search needs
 is-requires : tie.Need-is-requires
 is-requires c κs = search needs
 
-check-all-requires : tie.Need-check-all-requires
-check-all-requires c κs = (c .before .before .lines-in .ensures, rw (← c .before .before .lines-in .ensures) at (c .before .before .before .before .before .before .before .before .before .before .before .pre))
+check-lines-requires : tie.Need-check-lines-requires
+check-lines-requires c κs = (c .before .before .lines-in .ensures, rw (← c .before .before .lines-in .ensures) at (c .before .before .before .before .before .before .before .before .before .before .before .pre))
 
 returns-2 : tie.Need-returns-2
 unfolding trailerChecked
-returns-2 c = rw (← c .before .before .before .before .before .before .before .before .before .header-line .ensures, ← c .before .before .before .before .before .before .before .before .trailer-line .ensures, ← c .before .before .before .before .before .before .before .trailer-in .ensures, c .before .before .before .before .before .count .given .1, ← c .before .before .before .lines-in .ensures, ← c .before .before .is .ensures, c .before .if1 .taken) (c .check-all .ensures)
+returns-2 c = rw (← c .before .before .before .before .before .before .before .before .before .header-line .ensures, ← c .before .before .before .before .before .before .before .before .trailer-line .ensures, ← c .before .before .before .before .before .before .before .trailer-in .ensures, c .before .before .before .before .before .count .given .1, ← c .before .before .before .lines-in .ensures, ← c .before .before .is .ensures, c .before .if1 .taken) (c .check-lines .ensures)
 
 refused-requires-2 : tie.Need-refused-requires-2
 refused-requires-2 c κs = search needs
@@ -62,7 +62,7 @@ check-trailer-spec =
     returns
     lines-in-requires
     is-requires
-    check-all-requires
+    check-lines-requires
     returns-2
     refused-requires-2
     returns-3)

@@ -1,11 +1,5 @@
-use mathlib.Core.Path.{_∙_, ap}
-use mathlib.Core.List.{List}
-use Prim.Native.Nat.{ℕ}
-use denote.Ref.{now}
 use borrow.Author.Needs.{needs}
-use Rattle.layout.specs.Rules.{recordFault, rowFault}
 use Rattle.rules.specs.declared.Kind.the-variants.{Data, Guide}
-use Rattle.rules.specs.Takes.{lineTable}
 use Rattle.rules.proofs.FaultLaws.{line-fault-le}
 use Rattle.taking.proofs.checks.line_fault.Tie as tie
 use Rattle.taking.proofs.checks.line_fault.Statement.{statement}
@@ -23,12 +17,10 @@ row-fault-requires : tie.Need-row-fault-requires
 row-fault-requires c κs = search needs
 
 returns : tie.Need-returns
-returns c = let e = c .record-fault .ensures ∙ ap (λ (t : List ℕ). recordFault t (c .before .before .before .before .before .args .line .now)) (c .before .before .before .before .before .pre ∙ ap lineTable (c .before .enum-told .given .1)) in
-    (rw (c .before .enum-told .given .1) e, rw e (line-fault-le Data (c .before .before .before .before .before .args .line .now)))
+returns c = (rw (c .before .enum-told .given .1) (c .record-fault .ensures), rw (c .record-fault .ensures) (line-fault-le Data _))
 
 returns-2 : tie.Need-returns-2
-returns-2 c = let e = c .row-fault .ensures ∙ ap (λ (t : List ℕ). rowFault t (c .before .before .before .before .before .args .line .now)) (c .before .before .before .before .before .pre ∙ ap lineTable (c .before .enum-told2 .given .1)) in
-    (rw (c .before .enum-told2 .given .1) e, rw e (line-fault-le Guide (c .before .before .before .before .before .args .line .now)))
+returns-2 c = (rw (c .before .enum-told2 .given .1) (c .row-fault .ensures), rw (c .row-fault .ensures) (line-fault-le Guide _))
 
 pub line-fault-spec : {M : Type 1} → statement M
 line-fault-spec =

@@ -1,0 +1,9 @@
+use mathlib.Core.Path.{refl}
+use Rattle.faults.proofs.is_lax_code.Statement.{statement}
+use Rattle.faults.proofs.is_lax_code.Tie as tie
+
+returns : tie.Need-returns
+returns c = refl
+
+pub is-lax-code-spec : {M : Type 1} → statement M
+is-lax-code-spec = tie.close (tie.spec returns)

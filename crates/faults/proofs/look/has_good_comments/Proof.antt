@@ -1,0 +1,71 @@
+use mathlib.Core.Path.{_∙_, refl, sym}
+use Rattle.layout.specs.Tables.{dataRecord}
+use Rattle.layout.specs.Rules.{keeps, keepsOther}
+use Rattle.faults.specs.Look.{keptAt}
+use Rattle.layout.proofs.LineLaws.{never}
+use Rattle.faults.proofs.LookLaws.{field-kept}
+use borrow.Author.Needs.{needs}
+use Rattle.faults.proofs.look.has_good_comments.Statement.{statement}
+use Rattle.faults.proofs.look.has_good_comments.Tie as tie
+
+is-short-text-at-requires : tie.Need-is-short-text-at-requires
+is-short-text-at-requires c κs = search needs
+
+is-short-text-at-requires-2 : tie.Need-is-short-text-at-requires-2
+is-short-text-at-requires-2 c κs = search needs
+
+is-there-requires : tie.Need-is-there-requires
+is-there-requires c κs = search needs
+
+is-text-at-requires : tie.Need-is-text-at-requires
+is-text-at-requires c κs = search needs
+
+is-text-at-requires-2 : tie.Need-is-text-at-requires-2
+is-text-at-requires-2 c κs = search needs
+
+is-middling-text-at-requires : tie.Need-is-middling-text-at-requires
+is-middling-text-at-requires c κs = search needs
+
+is-middling-text-at-requires-2 : tie.Need-is-middling-text-at-requires-2
+is-middling-text-at-requires-2 c κs = search needs
+
+returns : tie.Need-returns
+unfolding keptAt keeps keepsOther
+returns c = λ h lax p. let s = c .before .before .before .before .before .before .before .before .before .before .before .before .before .before .args .rec .now in field-kept dataRecord 24 lax s refl p (c .before .before .before .before .before .before .before .before .before .before .before .before .is-short-text-at .ensures (c .before .before .before .before .before .before .before .before .before .before .before .if1 .taken) lax) ∙ field-kept dataRecord 25 lax s refl p (c .before .before .before .before .before .before .before .before .before .before .is-short-text-at2 .ensures (c .before .before .before .before .before .before .before .before .before .if2 .taken) lax) ∙ field-kept dataRecord 26 lax s refl p (rw (sym (c .before .before .before .before .before .before .before .before .is-there .ensures) ∙ (c .before .before .before .before .before .before .before .if3 .taken))) ∙ field-kept dataRecord 27 lax s refl p (c .before .before .before .before .before .before .is-text-at .ensures (c .before .before .before .before .before .if4 .taken) lax) ∙ field-kept dataRecord 28 lax s refl p (c .before .before .before .before .is-text-at2 .ensures (c .before .before .before .if5 .taken) lax) ∙ field-kept dataRecord 29 lax s refl p (c .before .before .is-middling-text-at .ensures (c .before .if6 .taken) lax) ∙ field-kept dataRecord 30 lax s refl p (c .is-middling-text-at2 .ensures h lax)
+
+returns-2 : tie.Need-returns-2
+returns-2 c = never
+
+returns-3 : tie.Need-returns-3
+returns-3 c = never
+
+returns-4 : tie.Need-returns-4
+returns-4 c = never
+
+returns-5 : tie.Need-returns-5
+returns-5 c = never
+
+returns-6 : tie.Need-returns-6
+returns-6 c = never
+
+returns-7 : tie.Need-returns-7
+returns-7 c = never
+
+pub has-good-comments-spec : {M : Type 1} → statement M
+has-good-comments-spec =
+    tie.close
+    (tie.spec
+    is-short-text-at-requires
+    is-short-text-at-requires-2
+    is-there-requires
+    is-text-at-requires
+    is-text-at-requires-2
+    is-middling-text-at-requires
+    is-middling-text-at-requires-2
+    returns
+    returns-2
+    returns-3
+    returns-4
+    returns-5
+    returns-6
+    returns-7)

@@ -1,0 +1,63 @@
+use mathlib.Core.Path.{_∙_, refl, sym}
+use Rattle.layout.specs.Tables.{dataRecord}
+use Rattle.layout.specs.Rules.{keeps, keepsOther}
+use Rattle.faults.specs.Look.{keptAt}
+use Rattle.layout.proofs.LineLaws.{never}
+use Rattle.faults.proofs.LookLaws.{field-kept}
+use borrow.Author.Needs.{needs}
+use Rattle.faults.proofs.look.has_good_customer.Statement.{statement}
+use Rattle.faults.proofs.look.has_good_customer.Tie as tie
+
+is-text-at-requires : tie.Need-is-text-at-requires
+is-text-at-requires c κs = search needs
+
+is-text-at-requires-2 : tie.Need-is-text-at-requires-2
+is-text-at-requires-2 c κs = search needs
+
+is-one-at-requires : tie.Need-is-one-at-requires
+is-one-at-requires c κs = search needs
+
+is-one-at-requires-2 : tie.Need-is-one-at-requires-2
+is-one-at-requires-2 c κs = search needs
+
+is-short-text-at-requires : tie.Need-is-short-text-at-requires
+is-short-text-at-requires c κs = search needs
+
+does-run-at-requires : tie.Need-does-run-at-requires
+does-run-at-requires c κs = search needs
+
+returns : tie.Need-returns
+unfolding keptAt keeps keepsOther
+returns c = λ h p. let lax = c .before .before .before .before .before .before .before .before .before .before .before .before .args .lax in let s = c .before .before .before .before .before .before .before .before .before .before .before .before .args .rec .now in field-kept dataRecord 11 lax s refl p (c .before .before .before .before .before .before .before .before .before .before .is-text-at .ensures (c .before .before .before .before .before .before .before .before .before .if1 .taken) lax) ∙ field-kept dataRecord 12 lax s refl p (c .before .before .before .before .before .before .before .before .is-text-at2 .ensures (c .before .before .before .before .before .before .before .if2 .taken) lax) ∙ field-kept dataRecord 13 lax s refl p (c .before .before .before .before .before .before .is-one-at .ensures (c .before .before .before .before .before .if3 .taken)) ∙ field-kept dataRecord 14 lax s refl p (c .before .before .before .before .is-one-at2 .ensures (c .before .before .before .if4 .taken)) ∙ field-kept dataRecord 15 lax s refl p (c .before .before .is-short-text-at .ensures (c .before .if5 .taken) lax) ∙ field-kept dataRecord 16 lax s refl p (sym (c .does-run-at .ensures) ∙ h)
+
+returns-2 : tie.Need-returns-2
+returns-2 c = never
+
+returns-3 : tie.Need-returns-3
+returns-3 c = never
+
+returns-4 : tie.Need-returns-4
+returns-4 c = never
+
+returns-5 : tie.Need-returns-5
+returns-5 c = never
+
+returns-6 : tie.Need-returns-6
+returns-6 c = never
+
+pub has-good-customer-spec : {M : Type 1} → statement M
+has-good-customer-spec =
+    tie.close
+    (tie.spec
+    is-text-at-requires
+    is-text-at-requires-2
+    is-one-at-requires
+    is-one-at-requires-2
+    is-short-text-at-requires
+    does-run-at-requires
+    returns
+    returns-2
+    returns-3
+    returns-4
+    returns-5
+    returns-6)

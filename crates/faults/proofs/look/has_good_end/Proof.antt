@@ -1,0 +1,63 @@
+use mathlib.Core.Path.{_∙_, refl, sym}
+use Rattle.layout.specs.Tables.{dataRecord}
+use Rattle.layout.specs.Rules.{keeps, keepsOther, faultIn}
+use Rattle.faults.specs.Look.{keptAt, faultFrom}
+use Rattle.layout.proofs.LineLaws.{never}
+use Rattle.faults.proofs.LookLaws.{field-kept}
+use borrow.Author.Needs.{needs}
+use Rattle.faults.proofs.look.has_good_end.Statement.{statement}
+use Rattle.faults.proofs.look.has_good_end.Tie as tie
+
+is-short-text-at-requires : tie.Need-is-short-text-at-requires
+is-short-text-at-requires c κs = search needs
+
+is-short-text-at-requires-2 : tie.Need-is-short-text-at-requires-2
+is-short-text-at-requires-2 c κs = search needs
+
+is-text-at-requires : tie.Need-is-text-at-requires
+is-text-at-requires c κs = search needs
+
+is-short-text-at-requires-3 : tie.Need-is-short-text-at-requires-3
+is-short-text-at-requires-3 c κs = search needs
+
+is-there-requires : tie.Need-is-there-requires
+is-there-requires c κs = search needs
+
+is-one-at-requires : tie.Need-is-one-at-requires
+is-one-at-requires c κs = search needs
+
+returns : tie.Need-returns
+unfolding keptAt keeps keepsOther faultFrom faultIn
+returns c = λ h lax p. let s = c .before .before .before .before .before .before .before .before .before .before .before .before .args .rec .now in field-kept dataRecord 31 lax s refl p (c .before .before .before .before .before .before .before .before .before .before .is-short-text-at .ensures (c .before .before .before .before .before .before .before .before .before .if1 .taken) lax) ∙ field-kept dataRecord 32 lax s refl p (c .before .before .before .before .before .before .before .before .is-short-text-at2 .ensures (c .before .before .before .before .before .before .before .if2 .taken) lax) ∙ field-kept dataRecord 33 lax s refl p (c .before .before .before .before .before .before .is-text-at .ensures (c .before .before .before .before .before .if3 .taken) lax) ∙ field-kept dataRecord 34 lax s refl p (c .before .before .before .before .is-short-text-at3 .ensures (c .before .before .before .if4 .taken) lax) ∙ field-kept dataRecord 35 lax s refl p (rw (sym (c .before .before .is-there .ensures) ∙ (c .before .if5 .taken))) ∙ field-kept dataRecord 36 lax s refl p (c .is-one-at .ensures h)
+
+returns-2 : tie.Need-returns-2
+returns-2 c = never
+
+returns-3 : tie.Need-returns-3
+returns-3 c = never
+
+returns-4 : tie.Need-returns-4
+returns-4 c = never
+
+returns-5 : tie.Need-returns-5
+returns-5 c = never
+
+returns-6 : tie.Need-returns-6
+returns-6 c = never
+
+pub has-good-end-spec : {M : Type 1} → statement M
+has-good-end-spec =
+    tie.close
+    (tie.spec
+    is-short-text-at-requires
+    is-short-text-at-requires-2
+    is-text-at-requires
+    is-short-text-at-requires-3
+    is-there-requires
+    is-one-at-requires
+    returns
+    returns-2
+    returns-3
+    returns-4
+    returns-5
+    returns-6)

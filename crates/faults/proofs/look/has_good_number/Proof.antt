@@ -1,0 +1,55 @@
+use mathlib.Core.Path.{_∙_, refl, sym}
+use Rattle.layout.specs.Tables.{dataRecord}
+use Rattle.layout.specs.Rules.{keeps, keepsOther}
+use Rattle.faults.specs.Look.{keptAt}
+use Rattle.layout.proofs.LineLaws.{never}
+use Rattle.faults.proofs.LookLaws.{field-kept, field-passed, field-whole, house-passes}
+use borrow.Author.Needs.{needs}
+use Rattle.faults.proofs.look.has_good_number.Statement.{statement}
+use Rattle.faults.proofs.look.has_good_number.Tie as tie
+
+is-one-at-requires : tie.Need-is-one-at-requires
+is-one-at-requires c κs = search needs
+
+are-all-at-requires : tie.Need-are-all-at-requires
+are-all-at-requires c κs = search needs
+
+are-all-at-requires-2 : tie.Need-are-all-at-requires-2
+are-all-at-requires-2 c κs = search needs
+
+is-house-at-requires : tie.Need-is-house-at-requires
+is-house-at-requires c κs = search needs
+
+is-short-text-at-requires : tie.Need-is-short-text-at-requires
+is-short-text-at-requires c κs = search needs
+
+returns : tie.Need-returns
+unfolding keptAt keeps keepsOther
+returns c = λ h lax p. let s = c .before .before .before .before .before .before .before .before .before .before .args .rec .now in field-kept dataRecord 0 lax s refl p (c .before .before .before .before .before .before .before .before .is-one-at .ensures (c .before .before .before .before .before .before .before .if1 .taken)) ∙ field-kept dataRecord 1 lax s refl p (sym (c .before .before .before .before .before .before .are-all-at .ensures) ∙ (c .before .before .before .before .before .if2 .taken)) ∙ field-kept dataRecord 2 lax s refl p (sym (c .before .before .before .before .are-all-at2 .ensures) ∙ (c .before .before .before .if3 .taken)) ∙ (let q = c .before .before .is-house-at .ensures (c .before .if4 .taken) _ in field-passed dataRecord 3 lax s refl (house-passes _ _ lax s _ (field-whole dataRecord 3 lax s refl p (q .0)) (q .1))) ∙ field-kept dataRecord 4 lax s refl p (c .is-short-text-at .ensures h lax)
+
+returns-2 : tie.Need-returns-2
+returns-2 c = never
+
+returns-3 : tie.Need-returns-3
+returns-3 c = never
+
+returns-4 : tie.Need-returns-4
+returns-4 c = never
+
+returns-5 : tie.Need-returns-5
+returns-5 c = never
+
+pub has-good-number-spec : {M : Type 1} → statement M
+has-good-number-spec =
+    tie.close
+    (tie.spec
+    is-one-at-requires
+    are-all-at-requires
+    are-all-at-requires-2
+    is-house-at-requires
+    is-short-text-at-requires
+    returns
+    returns-2
+    returns-3
+    returns-4
+    returns-5)

@@ -1,0 +1,48 @@
+use mathlib.Core.Path.{_∙_, refl, sym}
+use mathlib.Core.Bool.{false}
+use Rattle.layout.specs.Tables.{guideRow}
+use Rattle.layout.specs.Rules.{keeps, keepsOther, faultIn}
+use Rattle.faults.specs.Look.{keptAt, faultFrom}
+use Rattle.layout.proofs.LineLaws.{never}
+use Rattle.faults.proofs.LookLaws.{field-kept}
+use borrow.Author.Needs.{needs}
+use Rattle.faults.proofs.look.has_good_row_end.Statement.{statement}
+use Rattle.faults.proofs.look.has_good_row_end.Tie as tie
+
+does-run-at-requires : tie.Need-does-run-at-requires
+does-run-at-requires c κs = search needs
+
+is-there-requires : tie.Need-is-there-requires
+is-there-requires c κs = search needs
+
+is-one-at-requires : tie.Need-is-one-at-requires
+is-one-at-requires c κs = search needs
+
+is-one-at-requires-2 : tie.Need-is-one-at-requires-2
+is-one-at-requires-2 c κs = search needs
+
+returns : tie.Need-returns
+unfolding keptAt keeps keepsOther faultFrom faultIn
+returns c = λ h p. let lax = false in let s = c .before .before .before .before .before .before .before .before .args .row .now in field-kept guideRow 9 lax s refl p (sym (c .before .before .before .before .before .before .does-run-at .ensures) ∙ (c .before .before .before .before .before .if1 .taken)) ∙ field-kept guideRow 10 lax s refl p (rw (sym (c .before .before .before .before .is-there .ensures) ∙ (c .before .before .before .if2 .taken))) ∙ field-kept guideRow 11 lax s refl p (c .before .before .is-one-at .ensures (c .before .if3 .taken)) ∙ field-kept guideRow 12 lax s refl p (c .is-one-at2 .ensures h)
+
+returns-2 : tie.Need-returns-2
+returns-2 c = never
+
+returns-3 : tie.Need-returns-3
+returns-3 c = never
+
+returns-4 : tie.Need-returns-4
+returns-4 c = never
+
+pub has-good-row-end-spec : {M : Type 1} → statement M
+has-good-row-end-spec =
+    tie.close
+    (tie.spec
+    does-run-at-requires
+    is-there-requires
+    is-one-at-requires
+    is-one-at-requires-2
+    returns
+    returns-2
+    returns-3
+    returns-4)

@@ -1,0 +1,63 @@
+use mathlib.Core.Path.{_∙_, refl}
+use Rattle.layout.specs.Tables.{dataRecord}
+use Rattle.layout.specs.Rules.{keeps, keepsOther}
+use Rattle.faults.specs.Look.{keptAt}
+use Rattle.layout.proofs.LineLaws.{never}
+use Rattle.faults.proofs.LookLaws.{field-kept}
+use borrow.Author.Needs.{needs}
+use Rattle.faults.proofs.look.has_good_street.Statement.{statement}
+use Rattle.faults.proofs.look.has_good_street.Tie as tie
+
+is-direction-at-requires : tie.Need-is-direction-at-requires
+is-direction-at-requires c κs = search needs
+
+is-named-at-requires : tie.Need-is-named-at-requires
+is-named-at-requires c κs = search needs
+
+is-short-text-at-requires : tie.Need-is-short-text-at-requires
+is-short-text-at-requires c κs = search needs
+
+is-direction-at-requires-2 : tie.Need-is-direction-at-requires-2
+is-direction-at-requires-2 c κs = search needs
+
+is-named-at-requires-2 : tie.Need-is-named-at-requires-2
+is-named-at-requires-2 c κs = search needs
+
+are-capitals-at-requires : tie.Need-are-capitals-at-requires
+are-capitals-at-requires c κs = search needs
+
+returns : tie.Need-returns
+unfolding keptAt keeps keepsOther
+returns c = λ h p. let lax = c .before .before .before .before .before .before .before .before .before .before .before .before .args .lax in let s = c .before .before .before .before .before .before .before .before .before .before .before .before .args .rec .now in field-kept dataRecord 5 lax s refl p (c .before .before .before .before .before .before .before .before .before .before .is-direction-at .ensures (c .before .before .before .before .before .before .before .before .before .if1 .taken) lax) ∙ field-kept dataRecord 6 lax s refl p (c .before .before .before .before .before .before .before .before .is-named-at .ensures (c .before .before .before .before .before .before .before .if2 .taken)) ∙ field-kept dataRecord 7 lax s refl p (c .before .before .before .before .before .before .is-short-text-at .ensures (c .before .before .before .before .before .if3 .taken) lax) ∙ field-kept dataRecord 8 lax s refl p (c .before .before .before .before .is-direction-at2 .ensures (c .before .before .before .if4 .taken) lax) ∙ field-kept dataRecord 9 lax s refl p (c .before .before .is-named-at2 .ensures (c .before .if5 .taken)) ∙ field-kept dataRecord 10 lax s refl p (c .are-capitals-at .ensures h)
+
+returns-2 : tie.Need-returns-2
+returns-2 c = never
+
+returns-3 : tie.Need-returns-3
+returns-3 c = never
+
+returns-4 : tie.Need-returns-4
+returns-4 c = never
+
+returns-5 : tie.Need-returns-5
+returns-5 c = never
+
+returns-6 : tie.Need-returns-6
+returns-6 c = never
+
+pub has-good-street-spec : {M : Type 1} → statement M
+has-good-street-spec =
+    tie.close
+    (tie.spec
+    is-direction-at-requires
+    is-named-at-requires
+    is-short-text-at-requires
+    is-direction-at-requires-2
+    is-named-at-requires-2
+    are-capitals-at-requires
+    returns
+    returns-2
+    returns-3
+    returns-4
+    returns-5
+    returns-6)

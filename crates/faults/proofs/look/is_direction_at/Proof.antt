@@ -1,0 +1,75 @@
+use mathlib.Core.Path.{_∙_, sym}
+use Rattle.layout.proofs.LineLaws.{never}
+use Rattle.faults.proofs.LookLaws.{there-le, letter-kept, letters-kept}
+use borrow.Author.Needs.{needs}
+use Rattle.faults.proofs.look.is_direction_at.Statement.{statement}
+use Rattle.faults.proofs.look.is_direction_at.Tie as tie
+
+is-there-requires : tie.Need-is-there-requires
+is-there-requires c κs = search needs
+
+add-if2 : tie.Need-add-if2
+add-if2 c = let l = there-le (c .before .before .before .args .s .now) (c .before .before .before .args .i) 2 (sym (c .before .is-there .ensures) ∙ c .if1 .taken) in search needs
+
+shared-slice-read-if2 : tie.Need-shared-slice-read-if2
+shared-slice-read-if2 c = let l = there-le (c .before .before .before .before .args .s .now) (c .before .before .before .before .args .i) 2 (sym (c .before .before .is-there .ensures) ∙ c .before .if1 .taken) in search needs
+
+slice-aggregate-member : tie.Need-slice-aggregate-member
+slice-aggregate-member c = search needs
+
+shared-slice-read-member : tie.Need-shared-slice-read-member
+shared-slice-read-member c = let l = there-le (c .before .before .before .before .before .before .before .args .s .now) (c .before .before .before .before .before .before .before .args .i) 2 (sym (c .before .before .before .before .before .is-there .ensures) ∙ c .before .before .before .before .if1 .taken) in search needs
+
+member-requires : tie.Need-member-requires
+member-requires c κs = search needs
+
+returns : tie.Need-returns
+returns c = λ h. letter-kept (c .before .before .before .before .before .before .before .before .args .s .now) (c .before .before .before .before .before .before .before .before .args .i) (sym (c .before .before .before .before .before .before .is-there .ensures) ∙ c .before .before .before .before .before .if1 .taken) (c .before .before .before .if2 .taken) (sym (c .member .ensures) ∙ h)
+
+slice-aggregate-member-2 : tie.Need-slice-aggregate-member-2
+slice-aggregate-member-2 c = search needs
+
+shared-slice-read-member-2 : tie.Need-shared-slice-read-member-2
+shared-slice-read-member-2 c = let l = there-le (c .before .before .before .before .before .before .before .args .s .now) (c .before .before .before .before .before .before .before .args .i) 2 (sym (c .before .before .before .before .before .is-there .ensures) ∙ c .before .before .before .before .if1 .taken) in search needs
+
+member-requires-2 : tie.Need-member-requires-2
+member-requires-2 c κs = search needs
+
+slice-aggregate-member-3 : tie.Need-slice-aggregate-member-3
+slice-aggregate-member-3 c = search needs
+
+add-member : tie.Need-add-member
+add-member c = let l = there-le (c .before .before .before .before .before .before .before .before .before .args .s .now) (c .before .before .before .before .before .before .before .before .before .args .i) 2 (sym (c .before .before .before .before .before .before .before .is-there .ensures) ∙ c .before .before .before .before .before .before .if1 .taken) in search needs
+
+shared-slice-read-member-3 : tie.Need-shared-slice-read-member-3
+shared-slice-read-member-3 c = let l = there-le (c .before .before .before .before .before .before .before .before .before .before .args .s .now) (c .before .before .before .before .before .before .before .before .before .before .args .i) 2 (sym (c .before .before .before .before .before .before .before .before .is-there .ensures) ∙ c .before .before .before .before .before .before .before .if1 .taken) in search needs
+
+member-requires-3 : tie.Need-member-requires-3
+member-requires-3 c κs = search needs
+
+returns-2 : tie.Need-returns-2
+returns-2 c = λ h. letters-kept (c .before .before .before .before .before .before .before .before .before .before .before .args .s .now) (c .before .before .before .before .before .before .before .before .before .before .before .args .i) (sym (c .before .before .before .before .before .before .before .before .before .is-there .ensures) ∙ c .before .before .before .before .before .before .before .before .if1 .taken) (rw (← c .before .before .before .member2 .ensures, ← c .member3 .ensures) h)
+
+returns-3 : tie.Need-returns-3
+returns-3 c = never
+
+pub is-direction-at-spec : {M : Type 1} → statement M
+is-direction-at-spec =
+    tie.close
+    (tie.spec
+    is-there-requires
+    add-if2
+    shared-slice-read-if2
+    slice-aggregate-member
+    shared-slice-read-member
+    member-requires
+    returns
+    slice-aggregate-member-2
+    shared-slice-read-member-2
+    member-requires-2
+    slice-aggregate-member-3
+    add-member
+    shared-slice-read-member-3
+    member-requires-3
+    returns-2
+    returns-3)

@@ -1,0 +1,64 @@
+use mathlib.Core.Path.{_∙_}
+use Rattle.faults.specs.Look.{faultFrom}
+use Rattle.layout.proofs.LineLaws.{never}
+use borrow.Author.Needs.{needs}
+use Rattle.faults.proofs.look.is_good_record.Statement.{statement}
+use Rattle.faults.proofs.look.is_good_record.Tie as tie
+
+has-good-number-requires : tie.Need-has-good-number-requires
+has-good-number-requires c κs = search needs
+
+has-good-street-requires : tie.Need-has-good-street-requires
+has-good-street-requires c κs = search needs
+
+has-good-customer-requires : tie.Need-has-good-customer-requires
+has-good-customer-requires c κs = search needs
+
+has-good-order-requires : tie.Need-has-good-order-requires
+has-good-order-requires c κs = search needs
+
+has-good-comments-requires : tie.Need-has-good-comments-requires
+has-good-comments-requires c κs = search needs
+
+has-good-end-requires : tie.Need-has-good-end-requires
+has-good-end-requires c κs = search needs
+
+returns : tie.Need-returns
+unfolding faultFrom
+returns c = λ h p. c .before .before .before .before .before .before .before .before .before .before .has-good-number .ensures (c .before .before .before .before .before .before .before .before .before .if2 .taken) (c .before .before .before .before .before .before .before .before .before .before .before .before .before .args .lax) p ∙ c .before .before .before .before .before .before .before .before .has-good-street .ensures (c .before .before .before .before .before .before .before .if3 .taken) p ∙ c .before .before .before .before .before .before .has-good-customer .ensures (c .before .before .before .before .before .if4 .taken) p ∙ c .before .before .before .before .has-good-order .ensures (c .before .before .before .if5 .taken) (c .before .before .before .before .before .before .before .before .before .before .before .before .before .args .lax) p ∙ c .before .before .has-good-comments .ensures (c .before .if6 .taken) (c .before .before .before .before .before .before .before .before .before .before .before .before .before .args .lax) p ∙ c .has-good-end .ensures h (c .before .before .before .before .before .before .before .before .before .before .before .before .before .args .lax) p
+
+returns-2 : tie.Need-returns-2
+returns-2 c = never
+
+returns-3 : tie.Need-returns-3
+returns-3 c = never
+
+returns-4 : tie.Need-returns-4
+returns-4 c = never
+
+returns-5 : tie.Need-returns-5
+returns-5 c = never
+
+returns-6 : tie.Need-returns-6
+returns-6 c = never
+
+returns-7 : tie.Need-returns-7
+returns-7 c = never
+
+pub is-good-record-spec : {M : Type 1} → statement M
+is-good-record-spec =
+    tie.close
+    (tie.spec
+    has-good-number-requires
+    has-good-street-requires
+    has-good-customer-requires
+    has-good-order-requires
+    has-good-comments-requires
+    has-good-end-requires
+    returns
+    returns-2
+    returns-3
+    returns-4
+    returns-5
+    returns-6
+    returns-7)

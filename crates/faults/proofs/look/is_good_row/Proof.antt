@@ -1,0 +1,51 @@
+use mathlib.Core.Path.{_∙_, refl}
+use mathlib.Core.Bool.{false}
+use Rattle.layout.specs.Tables.{guideRow, startOf, sizeOf, low, high, parity}
+use Rattle.faults.specs.Look.{faultFrom}
+use Rattle.layout.proofs.LineLaws.{never}
+use Rattle.faults.proofs.LookLaws.{there-before, field-passed, field-whole, low-passes, high-passes, parity-passes}
+use borrow.Author.Needs.{needs}
+use Rattle.faults.proofs.look.is_good_row.Statement.{statement}
+use Rattle.faults.proofs.look.is_good_row.Tie as tie
+
+has-good-row-street-requires : tie.Need-has-good-row-street-requires
+has-good-row-street-requires c κs = search needs
+
+is-range-requires : tie.Need-is-range-requires
+is-range-requires c κs = search needs
+
+has-good-row-place-requires : tie.Need-has-good-row-place-requires
+has-good-row-place-requires c κs = search needs
+
+has-good-row-end-requires : tie.Need-has-good-row-end-requires
+has-good-row-end-requires c κs = search needs
+
+returns : tie.Need-returns
+unfolding faultFrom
+returns c = λ h p. let s = c .before .before .before .before .before .before .before .before .before .args .row .now in let q = c .before .before .before .before .is-range .ensures (c .before .before .before .if3 .taken) in c .before .before .before .before .before .before .has-good-row-street .ensures (c .before .before .before .before .before .if2 .taken) p ∙ field-passed guideRow low false s refl (low-passes _ _ false s _ (field-whole guideRow low false s refl p (there-before s (startOf guideRow parity) 1 (startOf guideRow low) (sizeOf guideRow low) refl (q 0 .0))) (q _ .1 .0)) ∙ field-passed guideRow high false s refl (high-passes _ _ false s _ (field-whole guideRow high false s refl p (there-before s (startOf guideRow parity) 1 (startOf guideRow high) (sizeOf guideRow high) refl (q 0 .0))) (q _ .1 .1 .0)) ∙ c .before .before .has-good-row-place .ensures (c .before .if4 .taken) p ∙ field-passed guideRow parity false s refl (parity-passes _ _ false s _ (field-whole guideRow parity false s refl p (q 0 .0)) (q _ .1 .1 .1)) ∙ c .has-good-row-end .ensures h p
+
+returns-2 : tie.Need-returns-2
+returns-2 c = never
+
+returns-3 : tie.Need-returns-3
+returns-3 c = never
+
+returns-4 : tie.Need-returns-4
+returns-4 c = never
+
+returns-5 : tie.Need-returns-5
+returns-5 c = never
+
+pub is-good-row-spec : {M : Type 1} → statement M
+is-good-row-spec =
+    tie.close
+    (tie.spec
+    has-good-row-street-requires
+    is-range-requires
+    has-good-row-place-requires
+    has-good-row-end-requires
+    returns
+    returns-2
+    returns-3
+    returns-4
+    returns-5)

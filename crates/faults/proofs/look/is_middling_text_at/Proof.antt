@@ -1,0 +1,55 @@
+use mathlib.Core.Path.{_∙_, sym}
+use native.Mathlib.Omega.{arith}
+use Rattle.text.specs.declared.Class.the-variants.{Space}
+use Rattle.text.proofs.Laws.{and-left, and-right}
+use Rattle.text.proofs.PartLaws.{all-ends}
+use Rattle.layout.proofs.LineLaws.{never}
+use Rattle.faults.proofs.LookLaws.{there-le, text-begins, text-blank}
+use borrow.Author.Needs.{needs}
+use Rattle.faults.proofs.look.is_middling_text_at.Statement.{statement}
+use Rattle.faults.proofs.look.is_middling_text_at.Tie as tie
+
+is-there-requires : tie.Need-is-there-requires
+is-there-requires c κs = search needs
+
+byte-of-requires : tie.Need-byte-of-requires
+byte-of-requires c κs = search needs
+
+returns : tie.Need-returns
+returns c = λ h. text-begins (c .before .before .before .before .before .args .s .now) (c .before .before .before .before .before .args .i) (c .before .before .before .before .before .args .n) (sym (c .before .before .before .is-there .ensures) ∙ c .before .before .if1 .taken) (c .before .byte-of .ensures) (c .if2 .taken)
+
+are-eight-blank-requires : tie.Need-are-eight-blank-requires
+are-eight-blank-requires c κs = omega (arith, there-le (c .before .before .before .before .before .before .before .args .s .now) (c .before .before .before .before .before .before .before .args .i) (c .before .before .before .before .before .before .before .args .n) (sym (c .before .before .before .before .before .is-there .ensures) ∙ c .before .before .before .before .if1 .taken))
+
+add-are-eight-blank : tie.Need-add-are-eight-blank
+add-are-eight-blank c = let l = there-le (c .before .before .before .before .before .before .before .before .args .s .now) (c .before .before .before .before .before .before .before .before .args .i) (c .before .before .before .before .before .before .before .before .args .n) (sym (c .before .before .before .before .before .before .is-there .ensures) ∙ c .before .before .before .before .before .if1 .taken) in search needs
+
+are-eight-blank-requires-2 : tie.Need-are-eight-blank-requires-2
+are-eight-blank-requires-2 c κs = omega (arith, there-le (c .before .before .before .before .before .before .before .before .args .s .now) (c .before .before .before .before .before .before .before .before .args .i) (c .before .before .before .before .before .before .before .before .args .n) (sym (c .before .before .before .before .before .before .is-there .ensures) ∙ c .before .before .before .before .before .if1 .taken))
+
+returns-2 : tie.Need-returns-2
+returns-2 c = λ h. let a = and-left (c .before .are-eight-blank .result) (c .are-eight-blank2 .result) h in let b = and-right (c .before .are-eight-blank .result) (c .are-eight-blank2 .result) h in text-blank (c .before .before .before .before .before .before .before .before .before .args .s .now) (c .before .before .before .before .before .before .before .before .before .args .i) (c .before .before .before .before .before .before .before .before .before .args .n) (sym (c .before .before .before .before .before .before .before .is-there .ensures) ∙ c .before .before .before .before .before .before .if1 .taken) (all-ends Space (c .before .before .before .before .before .before .before .before .before .args .i) (c .before .before .before .before .before .before .before .before .before .args .n) 8 (c .before .before .before .before .before .before .before .before .before .args .s .now) (omega (arith, c .before .before .before .if3 .taken)) (omega (arith, c .before .before .if4 .taken)) (c .before .are-eight-blank .ensures a) (c .are-eight-blank2 .ensures b))
+
+returns-3 : tie.Need-returns-3
+returns-3 c = never
+
+returns-4 : tie.Need-returns-4
+returns-4 c = never
+
+returns-5 : tie.Need-returns-5
+returns-5 c = never
+
+pub is-middling-text-at-spec : {M : Type 1} → statement M
+is-middling-text-at-spec =
+    tie.close
+    (tie.spec
+    is-there-requires
+    byte-of-requires
+    returns
+    are-eight-blank-requires
+    add-are-eight-blank
+    are-eight-blank-requires-2
+    returns-2
+    returns-3
+    returns-4
+    returns-5)

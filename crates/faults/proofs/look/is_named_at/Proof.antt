@@ -1,0 +1,52 @@
+use mathlib.Core.Path.{_∙_, sym}
+use Rattle.text.proofs.Laws.{part-is}
+use Rattle.layout.proofs.LineLaws.{never}
+use Rattle.faults.proofs.LookLaws.{there-le, name-begins, name-spared}
+use borrow.Author.Needs.{needs}
+use Rattle.faults.proofs.look.is_named_at.Statement.{statement}
+use Rattle.faults.proofs.look.is_named_at.Tie as tie
+
+is-there-requires : tie.Need-is-there-requires
+is-there-requires c κs = search needs
+
+byte-of-requires : tie.Need-byte-of-requires
+byte-of-requires c κs = search needs
+
+returns : tie.Need-returns
+returns c = λ h. name-begins (c .before .before .before .before .before .args .s .now) (c .before .before .before .before .before .args .i) (c .before .before .before .before .before .args .n) (sym (c .before .before .before .is-there .ensures) ∙ c .before .before .if1 .taken) (c .before .before .before .before .before .args .lax) (c .before .byte-of .ensures) (c .if2 .taken)
+
+add-e : tie.Need-add-e
+add-e c = let l = there-le (c .before .before .before .before .before .args .s .now) (c .before .before .before .before .before .args .i) (c .before .before .before .before .before .args .n) (sym (c .before .before .before .is-there .ensures) ∙ c .before .before .if1 .taken) in search needs
+
+sub-is-spared : tie.Need-sub-is-spared
+sub-is-spared c = search needs
+
+part-is-spared-start : tie.Need-part-is-spared-start
+part-is-spared-start c = search needs
+
+part-is-spared-end : tie.Need-part-is-spared-end
+part-is-spared-end c = let l = there-le (c .before .before .before .before .before .args .s .now) (c .before .before .before .before .before .args .i) (c .before .before .before .before .before .args .n) (sym (c .before .before .before .is-there .ensures) ∙ c .before .before .if1 .taken) in search needs
+
+is-spared-requires : tie.Need-is-spared-requires
+is-spared-requires c κs = search needs
+
+returns-2 : tie.Need-returns-2
+returns-2 c = λ h. name-spared (c .before .before .before .before .before .before .before .args .s .now) (c .before .before .before .before .before .before .before .args .i) (c .before .before .before .before .before .before .before .args .n) (sym (c .before .before .before .before .before .is-there .ensures) ∙ c .before .before .before .before .if1 .taken) (c .before .before .before .before .before .before .before .args .lax) (sym (rw part-is at (c .is-spared .ensures)) ∙ h)
+
+returns-3 : tie.Need-returns-3
+returns-3 c = never
+
+pub is-named-at-spec : {M : Type 1} → statement M
+is-named-at-spec =
+    tie.close
+    (tie.spec
+    is-there-requires
+    byte-of-requires
+    returns
+    add-e
+    sub-is-spared
+    part-is-spared-start
+    part-is-spared-end
+    is-spared-requires
+    returns-2
+    returns-3)

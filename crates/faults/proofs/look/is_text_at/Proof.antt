@@ -1,0 +1,52 @@
+use mathlib.Core.Path.{_∙_, sym}
+use Rattle.text.proofs.Laws.{part-is}
+use Rattle.layout.proofs.LineLaws.{never}
+use Rattle.faults.proofs.LookLaws.{there-le, text-begins, text-blank}
+use borrow.Author.Needs.{needs}
+use Rattle.faults.proofs.look.is_text_at.Statement.{statement}
+use Rattle.faults.proofs.look.is_text_at.Tie as tie
+
+is-there-requires : tie.Need-is-there-requires
+is-there-requires c κs = search needs
+
+byte-of-requires : tie.Need-byte-of-requires
+byte-of-requires c κs = search needs
+
+returns : tie.Need-returns
+returns c = λ h. text-begins (c .before .before .before .before .before .args .s .now) (c .before .before .before .before .before .args .i) (c .before .before .before .before .before .args .n) (sym (c .before .before .before .is-there .ensures) ∙ c .before .before .if1 .taken) (c .before .byte-of .ensures) (c .if2 .taken)
+
+add-e : tie.Need-add-e
+add-e c = let l = there-le (c .before .before .before .before .before .args .s .now) (c .before .before .before .before .before .args .i) (c .before .before .before .before .before .args .n) (sym (c .before .before .before .is-there .ensures) ∙ c .before .before .if1 .taken) in search needs
+
+sub-all-in : tie.Need-sub-all-in
+sub-all-in c = search needs
+
+part-all-in-start : tie.Need-part-all-in-start
+part-all-in-start c = search needs
+
+part-all-in-end : tie.Need-part-all-in-end
+part-all-in-end c = let l = there-le (c .before .before .before .before .before .args .s .now) (c .before .before .before .before .before .args .i) (c .before .before .before .before .before .args .n) (sym (c .before .before .before .is-there .ensures) ∙ c .before .before .if1 .taken) in search needs
+
+all-in-requires : tie.Need-all-in-requires
+all-in-requires c κs = search needs
+
+returns-2 : tie.Need-returns-2
+returns-2 c = λ h. text-blank (c .before .before .before .before .before .before .before .args .s .now) (c .before .before .before .before .before .before .before .args .i) (c .before .before .before .before .before .before .before .args .n) (sym (c .before .before .before .before .before .is-there .ensures) ∙ c .before .before .before .before .if1 .taken) (sym (rw part-is at (c .all-in .ensures)) ∙ h)
+
+returns-3 : tie.Need-returns-3
+returns-3 c = never
+
+pub is-text-at-spec : {M : Type 1} → statement M
+is-text-at-spec =
+    tie.close
+    (tie.spec
+    is-there-requires
+    byte-of-requires
+    returns
+    add-e
+    sub-all-in
+    part-all-in-start
+    part-all-in-end
+    all-in-requires
+    returns-2
+    returns-3)

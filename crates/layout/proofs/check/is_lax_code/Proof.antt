@@ -1,9 +1,0 @@
-use mathlib.Core.Path.{refl}
-use Rattle.layout.proofs.check.is_lax_code.Statement.{statement}
-use Rattle.layout.proofs.check.is_lax_code.Tie as tie
-
-returns : tie.Need-returns
-returns c = refl
-
-pub is-lax-code-spec : {M : Type 1} → statement M
-is-lax-code-spec = tie.close (tie.spec returns)
