@@ -11,11 +11,11 @@ use lib.Seq.{getD-drop}
 use borrow.Author.Tests.{leb-true, le-leb, ne-eqb}
 use Rattle.text.specs.declared.Class.the-variants.{Printable, Space, Capital}
 use Rattle.text.specs.Text.{allIn, blank, runOf, memberOf, part, there}
-use Rattle.text.proofs.Laws.{and-left, and-right, left-at}
+use Rattle.text.proofs.Laws.{and-left, and-right, or-right, left-at}
 use Rattle.layout.specs.Tables.{house, lowEnd, highEnd, parityLetter, leftText, named, capitals, direction, startOf, sizeOf, field}
 use Rattle.layout.specs.Rules.{spared, isDirection, keeps, isWhole, houseFault, endFault, highFault, parityFault, faultBy, faultIn}
 use Rattle.faults.specs.Look.{keptAt, faultFrom}
-use Rattle.layout.proofs.LineLaws.{two-at, or-right, part-whole, kept-passes, fault-passed, never}
+use Rattle.layout.proofs.LineLaws.{two-at, part-whole, kept-passes, fault-passed, never}
 
 -- ---- some bytes of a line
 

@@ -100,11 +100,6 @@ pub part-whole : (s : List ℕ) (i n : ℕ) → i ≤ length s → n ≤ length 
 unfolding isWhole
 part-whole s i n a b h = rw (part-long s i n a b, eq-eqb n n refl, all-part Printable i n s h)
 
--- one of two tests is enough
-pub or-right : (a b : Bool) → b ≡ true → (a || b) ≡ true
-or-right true b h = refl
-or-right false b h = h
-
 -- a test that is false is not true
 pub never : {A : Type 0} → false ≡ true → A
 never e = let z : _≡_ {A = ℕ} 0 1 = cc in absurd (omega arith)

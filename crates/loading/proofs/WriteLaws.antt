@@ -17,14 +17,11 @@ use Rattle.text.proofs.Laws.{and-left}
 use Rattle.rules.specs.Walks.{find, isNothing, count}
 use Rattle.rules.specs.Slots.{slotSize, goodLength, unsoundSlot, registerSound, slots, slotAt, recordOf}
 use Rattle.rules.specs.Loads.{entryAt, entriesIn, linesTo, headerFor, trailerFor, loadFile, loadSize}
+use Rattle.rules.proofs.WalkLaws.{at-most-one}
 use Rattle.rules.proofs.PlaceLaws.{part-length}
 use Rattle.rules.proofs.SlotLaws.{put-is}
 use Rattle.rules.proofs.LookupLaws.{long-few}
 use Rattle.rules.proofs.LoadLength.{lines-length, header-length}
-
-pub at-most-one : (b : Bool) → cond b 1 0 ≤ 1
-at-most-one true = omega arith
-at-most-one false = omega arith
 
 -- ---- the count: e of the first i slots have an entry
 

@@ -12,10 +12,10 @@ use borrow.Author.Tests.{leb-true, le-leb}
 use Rattle.text.specs.declared.Spelled.{Spelled}
 use Rattle.text.specs.declared.Spelled.the-variants.{Number, NoNumber}
 use Rattle.text.specs.Text.{sameBytes, onNumber}
-use Rattle.text.proofs.Laws.{and-left, and-right, same-true, same-refl}
+use Rattle.text.proofs.Laws.{and-left, and-right, or-left, or-right, same-true, same-refl}
 use Rattle.layout.specs.Fields.{houseOf, streetOf, placeOf, rowStreetOf, rowPlaceOf, lowOf, highOf, parityOf, allows}
 use Rattle.rules.specs.Covers.{hits, over, covers, sameStreet, bothAllow, meetFrom, meets, clash}
-use Rattle.rules.proofs.WalkLaws.{decided, clash-bool, or-left, or-right}
+use Rattle.rules.proofs.WalkLaws.{decided, clash-bool}
 
 -- ---- numbers in two ranges
 

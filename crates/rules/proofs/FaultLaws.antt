@@ -11,7 +11,7 @@ use borrow.Author.Tests.{leb-true, eqb-true, eq-eqb}
 use Rattle.text.specs.declared.Spelled.{Spelled}
 use Rattle.text.specs.declared.Spelled.the-variants.{Number, NoNumber}
 use Rattle.text.specs.Text.{part, onNumber, memberOf}
-use Rattle.text.proofs.Laws.{and-left, and-right}
+use Rattle.text.proofs.Laws.{and-left, and-right, or-right}
 use Rattle.layout.specs.Tables.{dataRecord, guideRow, house, lowEnd, highEnd, parityLetter}
 use Rattle.layout.specs.Fields.{functionOf, houseIn, endIn, lowOf, highOf, parityOf, allows}
 use Rattle.layout.specs.Rules.{keeps, houseFault, endFault, highFault, parityFault, isWhole, faultBy, fromZero, faultIn, isLax, recordFault, rowFault}
@@ -19,7 +19,7 @@ use Rattle.rules.specs.declared.Kind.{Kind}
 use Rattle.rules.specs.declared.Kind.the-variants.{Data, Guide}
 use Rattle.rules.specs.Takes.{lineTable, lineFault}
 use Rattle.rules.specs.Answered.{startsIn}
-use Rattle.rules.proofs.WalkLaws.{clash-bool, or-right}
+use Rattle.rules.proofs.WalkLaws.{clash-bool}
 
 -- ---- P is so of a fault, if it is so of 0 and of each field's start
 

@@ -37,7 +37,7 @@ use Rattle.rules.specs.Records.{codedOf, filedOf, stores, stateAfter, sh
 use Rattle.rules.specs.Rows.{rowCodeOf, rowApplied}
 use Rattle.rules.specs.Takes.{Stores, lineSize, lineFault, linesIn, lineAt, checked, refusedFile, lineApplied, after, answerAt, appliedFile, taken}
 use Rattle.rules.specs.Demands.{File, Office, start, taking, run, presentAt, SoundStores, NoneUnsound}
-use Rattle.rules.proofs.WalkLaws.{clash-bool, not-false, not-true, find-some, find-none}
+use Rattle.rules.proofs.WalkLaws.{clash-bool, not-false, not-true, find-some, find-none, find-nowhere, is-nothing}
 use Rattle.rules.proofs.SlotLaws.{Whole, WholeRow, state-slot, day-slot, record-slot, present-row, row-slot, length-row-slot, length-free, whole-row-at, zero-zeros, zero-row-sound, empty-sound, empty-guide-sound}
 use Rattle.rules.proofs.EsnLaws.{date-shown, function-shown}
 use Rattle.rules.proofs.View.{Place, own, new, Content, stored, kept, Took, RowTook, added, removed, late}
@@ -47,19 +47,6 @@ use Rattle.rules.proofs.KeepStores.{used-after, content-ok, same-length
 use Rattle.rules.proofs.SoundLaws.{date-fits, fault-shown, esn-filled}
 
 -- ---- a store is sound exactly if its length is good and each slot is sound
-
--- a test that holds nowhere below n finds nothing
-pub find-nowhere-below : (p : ℕ → Bool) (n : ℕ) → ((i : ℕ) → i < n → p i ≡ false) → find p n ≡ Nothing
-find-nowhere-below p n f = go (find p n) refl
-  where
-    go : (o : Found) → find p n ≡ o → o ≡ Nothing
-    go (At i) e = let h = find-some p n i e in clash-bool (h .1) (f i (h .0))
-    go Nothing e = refl
-
--- what is nothing
-is-nothing : (o : Found) → isNothing o ≡ true → o ≡ Nothing
-is-nothing Nothing e = refl
-is-nothing (At i) e = clash-bool e refl
 
 -- a store of places of w bytes, place by place: its length is good, and each place passes a test
 pub record AllSound (w : ℕ) (p : List ℕ → Bool) (s : List ℕ) : Type 0 where
@@ -83,7 +70,7 @@ module _ (w : ℕ) (p : List ℕ → Bool) (s : List ℕ) where
   none-fails : AllSound w p s → goodLength w s && isNothing (find (λ i. not (p (place w s i))) (length s / w)) ≡ true
   none-fails a =
       let o : find (λ i. not (p (place w s i))) (length s / w) ≡ Nothing =
-      find-nowhere-below (λ i. not (p (place w s i))) (length s / w) (λ i h. rw (a .each i h)) in
+      find-nowhere (λ i. not (p (place w s i))) (length s / w) (λ i h. rw (a .each i h)) in
       rw (a .long, o) refl
 
 -- a register, and a guide, slot by slot

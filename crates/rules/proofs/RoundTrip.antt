@@ -36,12 +36,11 @@ use Rattle.rules.specs.Takes.{Stores, lineAt, linesIn, badLine, linesChe
 use Rattle.rules.specs.Loads.{entryAt, entriesIn, headerFor, trailerFor, loadFile, loadSize, loadHeader, laterAt, headerRefusal, loadRefusal, loaded}
 use Rattle.rules.specs.Demands.{File, start, run, liveAt, OneSlot, Lies, AllLie}
 use Rattle.rules.specs.Circle.{OneEntry, AllZoned, Fit, Trip, fileOf, Back, Returned, RoundTrip}
-use Rattle.rules.proofs.WalkLaws.{clash-bool, and-both, and-rest, find-none, find-hit}
+use Rattle.rules.proofs.WalkLaws.{clash-bool, and-both, and-rest, find-none, find-nowhere, find-hit}
 use Rattle.rules.proofs.SlotLaws.{Whole, state-slot, day-slot, record-slot, whole-at, empty-sound}
 use Rattle.rules.proofs.TakeLaws.{good-is}
 use Rattle.rules.proofs.KeepStores.{used-live}
 use Rattle.rules.proofs.Keep.{demand3}
-use Rattle.rules.proofs.KeepSound.{find-nowhere-below}
 use Rattle.rules.proofs.LoadLength.{load-length}
 use Rattle.rules.proofs.FrameLaws.{cycle-read, trailer-read}
 use Rattle.rules.proofs.LoadLaws.{whole-load, function-load, source-load, byte-load, fault-load}
@@ -247,7 +246,7 @@ module _ (R G date company : List ℕ) (c : ℕ) (out answers : List ℕ) (last 
   -- each of its lines keeps the field rules
   lines-keep : find (badLine Data f) (entriesIn R) ≡ Nothing
   unfolding badLine entriesIn entryAt
-  lines-keep = find-nowhere-below (badLine Data f) (entriesIn R) (λ x l. go x (counted-as (entryAt R) (slots R) x l))
+  lines-keep = find-nowhere (badLine Data f) (entriesIn R) (λ x l. go x (counted-as (entryAt R) (slots R) x l))
     where
       go : (x : ℕ) → CountedAs (entryAt R) (slots R) x → badLine Data f x ≡ false
       go x k =
@@ -347,7 +346,7 @@ lowest-is G r k l =
         absurd (omega arith)
 
     none : find (isOver r G) k ≡ Nothing
-    none = find-nowhere-below (isOver r G) k (λ j h. go j h (isOver r G j) refl)
+    none = find-nowhere (isOver r G) k (λ j h. go j h (isOver r G j) refl)
 
 -- after any run from empty stores
 pub run-fit : (files : List File) (n m : ℕ) → Fit (run files (start n m) .stores .register) (run files (start n m) .stores .guide)

@@ -14,11 +14,10 @@ use Rattle.text.specs.Text.{part, allEqual, putAt}
 use Rattle.text.proofs.Laws.{and-left, and-right}
 use Rattle.calendar.specs.declared.Day.{Day}
 use Rattle.calendar.proofs.DayLaws.{bytes-back}
-use Rattle.rules.specs.declared.Found.{Found}
-use Rattle.rules.specs.declared.Found.the-variants.{At, Nothing}
+use Rattle.rules.specs.declared.Found.the-variants.{Nothing}
 use Rattle.rules.specs.Walks.{find}
 use Rattle.rules.specs.Slots.{place, goodLength, slots, slotAt, withSlot, stateOf, slotDay, recordOf, slotHead, slotOf, restated, written, isZero, slotSound, unsoundSlot, registerSound, rowSlots, rowSlotAt, withRowSlot, isPresent, isVacant, rowOf, rowHead, rowSlotOf, rowWritten, freeRowSlot, rowSlotSound, unsoundRowSlot, guideSound}
-use Rattle.rules.proofs.WalkLaws.{find-some, clash-bool, and-both}
+use Rattle.rules.proofs.WalkLaws.{find-nowhere, and-both}
 use Rattle.rules.proofs.PlaceLaws.{part-length, place-same, place-other, place-length}
 
 -- a data record has 512 bytes, a guide row 200
@@ -258,14 +257,6 @@ empty-slots n = rw length-replicate (omega arith)
 pub empty-row-slots : (n : ℕ) → rowSlots (replicate (n * 208) 0) ≡ n
 empty-row-slots n = rw length-replicate (omega arith)
 
--- a test that holds nowhere finds nothing
-pub find-nowhere : (p : ℕ → Bool) (n : ℕ) → ((i : ℕ) → p i ≡ false) → find p n ≡ Nothing
-find-nowhere p n f = go (find p n) refl
-  where
-    go : (o : Found) → find p n ≡ o → o ≡ Nothing
-    go (At i) e = clash-bool (find-some p n i e .1) (f i)
-    go Nothing e = refl
-
 -- a register of 1 to 4096 slots of zeros is sound, and so is a guide
 pub empty-sound : (n : ℕ) → 1 ≤ n → n ≤ 4096 → registerSound (replicate (n * 520) 0) ≡ true
 unfolding registerSound goodLength unsoundSlot
@@ -273,7 +264,7 @@ empty-sound n a b =
     let R : List ℕ = replicate (n * 520) 0 in
     let e : length R % 520 ≡ 0 = rw length-replicate (omega arith) in
     let o : find (unsoundSlot R) (slots R) ≡ Nothing =
-    find-nowhere (unsoundSlot R) (slots R) (λ i. rw (zero-sound (slotAt R i) (zero-place 520 (n * 520) i))) in
+    find-nowhere (unsoundSlot R) (slots R) (λ i l. rw (zero-sound (slotAt R i) (zero-place 520 (n * 520) i))) in
     rw (o, e, empty-slots n, le-leb 1 n a, le-leb n 4096 b)
 
 pub empty-guide-sound : (n : ℕ) → 1 ≤ n → n ≤ 4096 → guideSound (replicate (n * 208) 0) ≡ true
@@ -282,5 +273,5 @@ empty-guide-sound n a b =
     let G : List ℕ = replicate (n * 208) 0 in
     let e : length G % 208 ≡ 0 = rw length-replicate (omega arith) in
     let o : find (unsoundRowSlot G) (rowSlots G) ≡ Nothing =
-    find-nowhere (unsoundRowSlot G) (rowSlots G) (λ i. rw (zero-row-sound (rowSlotAt G i) (zero-place 208 (n * 208) i))) in
+    find-nowhere (unsoundRowSlot G) (rowSlots G) (λ i l. rw (zero-row-sound (rowSlotAt G i) (zero-place 208 (n * 208) i))) in
     rw (o, e, empty-row-slots n, le-leb 1 n a, le-leb n 4096 b)

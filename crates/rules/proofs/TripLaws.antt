@@ -11,7 +11,7 @@ use lib.Dec.{eqb}
 use lib.ListN.{length, replicate, length-replicate, replicate-append-replicate}
 use borrow.Author.Tests.{eqb-true, leb-true, ltb-false}
 use Rattle.text.specs.Text.{part}
-use Rattle.text.proofs.Laws.{and-left, and-right, same-refl}
+use Rattle.text.proofs.Laws.{and-left, and-right, and-false, same-refl}
 use Rattle.calendar.specs.declared.Day.{Day}
 use Rattle.calendar.specs.declared.Date.{Date}
 use Rattle.calendar.specs.declared.Date.the-variants.{Day as aDay, NoDate}
@@ -29,10 +29,10 @@ use Rattle.rules.specs.Records.{filedOf, hasNumber, findNumber, findRow,
 use Rattle.rules.specs.Loads.{entryAt}
 use Rattle.rules.specs.Demands.{liveAt}
 use Rattle.rules.specs.Circle.{OneEntry, Zoned}
-use Rattle.rules.proofs.WalkLaws.{clash-bool, not-true, find-hit}
+use Rattle.rules.proofs.WalkLaws.{clash-bool, not-true, find-nowhere, find-hit}
 use Rattle.rules.proofs.SlotLaws.{Whole, zero-zeros, zero-free, state-slot, record-slot, length-slot, whole-at, slot-same, slot-other, length-with}
 use Rattle.rules.proofs.KeepStores.{used-live, differ}
-use Rattle.rules.proofs.KeepSound.{find-nowhere-below, slots-sound, record-fits, Used, used-sound}
+use Rattle.rules.proofs.KeepSound.{slots-sound, record-fits, Used, used-sound}
 use Rattle.rules.proofs.FrameLaws.{part-at}
 use Rattle.rules.proofs.LoadLaws.{whole-load, function-load, number-load, esn-load, has-load, date-load, row-load}
 use Rattle.rules.proofs.FileLaws.{count-below, CountedAs, counted-as}
@@ -233,13 +233,13 @@ module _ (R : List ℕ) (n i : ℕ) (E : List ℕ) (p : Reached R n i E) (l : i 
           ap (λ s. eqb (stateOf s) 0) (below-is x c) ∙ rw (state-slot 1 (dayIn o) (forLoad o))
 
       none : find (freeAt E) k ≡ Nothing
-      none = find-nowhere-below (freeAt E) k (λ x h. taken x (counted-as (entryAt R) i x h))
+      none = find-nowhere (freeAt E) k (λ x h. taken x (counted-as (entryAt R) i x h))
 
   -- and no slot has its number
   number-absent : OneEntry R → findNumber (numberOf (forLoad r)) E ≡ Nothing
   unfolding OneEntry findNumber hasNumber entryAt
   number-absent one =
-      find-nowhere-below (hasNumber (numberOf (forLoad r)) E) (slots E) (λ x h. go x (rw many at h) (decLt x k))
+      find-nowhere (hasNumber (numberOf (forLoad r)) E) (slots E) (λ x h. go x (rw many at h) (decLt x k))
     where
       other : (x : ℕ) → CountedAs (entryAt R) i x → numberOf (recordOf (slotAt E x)) ≢ numberOf (forLoad r)
       other x c f =
@@ -252,14 +252,10 @@ module _ (R : List ℕ) (n i : ℕ) (E : List ℕ) (p : Reached R n i E) (l : i 
           let z : c .it ≡ i = one (c .it) i (v, c .passes) (l, e) (sym q ∙ f ∙ number-load r (whole-at R i l)) in
           omega (arith, c .below)
 
-      neither : (b : Bool) → b && false ≡ false
-      neither true = refl
-      neither false = refl
-
       go : (x : ℕ) → x < n → Dec (x < k) → hasNumber (numberOf (forLoad r)) E x ≡ false
       go x h (yes b) =
           let a = numberOf (recordOf (slotAt E x)) in
-          rw (differ a (numberOf (forLoad r)) (other x (counted-as (entryAt R) i x b))) (neither (isUsed (stateOf (slotAt E x))))
+          rw (differ a (numberOf (forLoad r)) (other x (counted-as (entryAt R) i x b))) (and-false (isUsed (stateOf (slotAt E x))))
       go x h (no b) = rw (above-is x (omega arith) h)
 
   -- so its line is answered 0, and fills that slot

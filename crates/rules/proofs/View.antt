@@ -25,7 +25,7 @@ use Rattle.rules.specs.Covers.{covers, clash, sameRow}
 use Rattle.rules.specs.Records.{isInsert, isMigrate, stores, isOwn, stateAfter, hasNumber, findNumber, isOver, findRow, freeAt, isReusable, reusableAt, findFree, findReusable, findSpare, tooEarly, otherEsn, table, answerOf, shown, shownUnder, slotAfter, registerAfter}
 use Rattle.rules.specs.Rows.{clashAt, findClash, vacantAt, findVacant, sameAt, findSame, entryUnder, findEntry, insertTable, deleteTable, rowAnswerOf, guideAfter}
 use Rattle.rules.specs.Demands.{usedAt, liveAt, presentAt}
-use Rattle.rules.proofs.WalkLaws.{clash-bool, and-both, and-rest, not-false, find-some, find-none, AllFail, positive, first-zero}
+use Rattle.rules.proofs.WalkLaws.{clash-bool, and-both, and-rest, not-false, find-some, find-none, is-nothing, AllFail, positive, first-zero}
 
 -- ---- codes and states
 
@@ -252,10 +252,6 @@ pub data RowTook (R G g : List ℕ) (c : RowCode) (K : List ℕ) : Type 0 where
   removed : c ≡ DeleteRow → (k : ℕ) → presentAt G k → sameRow (rowOf (rowSlotAt G k)) g ≡ true
       → ((i : ℕ) → liveAt R i → covers (rowOf (rowSlotAt G k)) (recordOf (slotAt R i)) ≡ false)
       → K ≡ withRowSlot G k freeRowSlot → RowTook R G g c K
-
-is-nothing : (o : Found) → isNothing o ≡ true → o ≡ Nothing
-is-nothing Nothing e = refl
-is-nothing (At i) e = clash-bool e refl
 
 -- o is a row that clashes, p a vacant slot
 go-added : (R G g : List ℕ) (o p : Found) → findClash g G ≡ o → findVacant G ≡ p → AllFail (insertTable o p)

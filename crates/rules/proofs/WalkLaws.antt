@@ -2,7 +2,7 @@
 -- Assumes nothing.
 use mathlib.Core.Path.{_≡_, refl, sym, _∙_, subst}
 use mathlib.Core.Logic.{_⊎_, inl, inr, _≢_}
-use mathlib.Core.Bool.{Bool, true, false, not, _&&_, _||_, cond, true≢false}
+use mathlib.Core.Bool.{Bool, true, false, not, _&&_, cond, true≢false}
 use mathlib.Core.List.{List, [], _∷_, _++_}
 use Prim.Native.Nat.{ℕ, zero, suc, _+_, _≤_, _<_}
 use native.Mathlib.Nat.{not-suc-le-zero, lt-irrefl}
@@ -12,9 +12,10 @@ use native.Mathlib.Omega.{arith}
 use lib.Dec.{eqb, ltb}
 use borrow.Author.Tests.{ltb-true, ne-eqb}
 use Rattle.text.specs.Text.{memberOf}
+use Rattle.text.proofs.Laws.{and-left, and-right}
 use Rattle.rules.specs.declared.Found.{Found}
 use Rattle.rules.specs.declared.Found.the-variants.{At, Nothing}
-use Rattle.rules.specs.Walks.{orElse, find, walked, sought, count, first}
+use Rattle.rules.specs.Walks.{orElse, isNothing, find, walked, sought, count, first}
 
 -- ---- tests
 
@@ -31,14 +32,6 @@ and-both a b p q = cc
 
 pub and-rest : (a b : Bool) → a ≡ true → a && b ≡ false → b ≡ false
 and-rest a b p q = cc
-
--- one of two suffices
-pub or-left : (a b : Bool) → a ≡ true → a || b ≡ true
-or-left a b e = rw e
-
-pub or-right : (a b : Bool) → b ≡ true → a || b ≡ true
-or-right true b e = refl
-or-right false b e = e
 
 pub not-false : (a : Bool) → not a ≡ false → a ≡ true
 not-false true h = refl
@@ -72,6 +65,18 @@ find-none p (suc n) e i h = go (λ f. find-none p n f i) (find p n) refl (p n) r
     go ih Nothing f true q e d = let z : _≡_ {A = ℕ} 0 1 = cc in absurd (omega arith)
     go ih Nothing f false q e (yes l) = ih f l
     go ih Nothing f false q e (no l) = let z : i ≡ n = omega arith in rw z q
+
+-- a test that holds nowhere below n
+pub find-nowhere : (p : ℕ → Bool) (n : ℕ) → ((i : ℕ) → i < n → p i ≡ false) → find p n ≡ Nothing
+find-nowhere p n f = go (find p n) refl
+  where
+    go : (o : Found) → find p n ≡ o → o ≡ Nothing
+    go (At i) e = let h = find-some p n i e in clash-bool (h .1) (f i (h .0))
+    go Nothing e = refl
+
+pub is-nothing : (o : Found) → isNothing o ≡ true → o ≡ Nothing
+is-nothing Nothing e = refl
+is-nothing (At i) e = clash-bool e refl
 
 pub find-hit : (p : ℕ → Bool) (n i : ℕ) → find p i ≡ Nothing → p i ≡ true → i < n → find p n ≡ At i
 unfolding find
@@ -122,6 +127,11 @@ find-same p q (suc n) f = rw (f n (omega arith), find-same p q n (λ j h. f j (o
 
 -- ---- counts
 
+-- a test counts for at most one
+pub at-most-one : (b : Bool) → cond b 1 0 ≤ 1
+at-most-one true = omega arith
+at-most-one false = omega arith
+
 pub count-same : (p q : ℕ → Bool) (n : ℕ) → ((j : ℕ) → j < n → q j ≡ p j) → count q n ≡ count p n
 unfolding count
 count-same p q zero f = refl
@@ -164,21 +174,13 @@ unfoldable pub positive : List (Bool × ℕ) → Bool
 positive [] = true
 positive (h ∷ t) = ltb 0 (h .1) && positive t
 
-and-first : (a b : Bool) → a && b ≡ true → a ≡ true
-and-first true b h = refl
-and-first false b h = h
-
-and-second : (a b : Bool) → a && b ≡ true → b ≡ true
-and-second true b h = h
-and-second false b h = clash-bool h refl
-
 pub first-zero : (l : List (Bool × ℕ)) → positive l ≡ true → first l ≡ 0 → AllFail l
 unfolding first AllFail positive
 first-zero [] p e = tt
-first-zero (h ∷ t) p e = go (λ f. first-zero t (and-second (ltb 0 (h .1)) (positive t) p) f) (h .0) refl e
+first-zero (h ∷ t) p e = go (λ f. first-zero t (and-right (ltb 0 (h .1)) (positive t) p) f) (h .0) refl e
   where
     go : (first t ≡ 0 → AllFail t) → (b : Bool) → h .0 ≡ b → cond b (h .1) (first t) ≡ 0 → (h .0 ≡ false) × AllFail t
-    go ih true q e = absurd (lt-irrefl 0 (subst (λ (n : ℕ). 0 < n) e (ltb-true 0 (h .1) (and-first (ltb 0 (h .1)) (positive t) p))))
+    go ih true q e = absurd (lt-irrefl 0 (subst (λ (n : ℕ). 0 < n) e (ltb-true 0 (h .1) (and-left (ltb 0 (h .1)) (positive t) p))))
     go ih false q e = (q, ih e)
 
 -- the numbers of a table are all in a list
@@ -190,21 +192,21 @@ numbersIn set (h ∷ t) = memberOf (h .1) set && numbersIn set t
 pub first-in : (set : List ℕ) (l : List (Bool × ℕ)) → memberOf 0 set ≡ true → numbersIn set l ≡ true → memberOf (first l) set ≡ true
 unfolding first numbersIn
 first-in set [] z e = z
-first-in set (h ∷ t) z e = go (first-in set t z (and-second (memberOf (h .1) set) (numbersIn set t) e)) (h .0)
+first-in set (h ∷ t) z e = go (first-in set t z (and-right (memberOf (h .1) set) (numbersIn set t) e)) (h .0)
   where
     go : memberOf (first t) set ≡ true → (b : Bool) → memberOf (cond b (h .1) (first t)) set ≡ true
-    go ih true = and-first (memberOf (h .1) set) (numbersIn set t) e
+    go ih true = and-left (memberOf (h .1) set) (numbersIn set t) e
     go ih false = ih
 
 -- two tables, one after the other
 pub first-append : (a b : List (Bool × ℕ)) → positive a ≡ true → first (a ++ b) ≡ cond (eqb (first a) 0) (first b) (first a)
 unfolding first positive
 first-append [] b p = refl
-first-append (h ∷ t) b p = go (first-append t b (and-second (ltb 0 (h .1)) (positive t) p)) (h .0)
+first-append (h ∷ t) b p = go (first-append t b (and-right (ltb 0 (h .1)) (positive t) p)) (h .0)
   where
     go : first (t ++ b) ≡ cond (eqb (first t) 0) (first b) (first t) → (v : Bool)
         → cond v (h .1) (first (t ++ b)) ≡ cond (eqb (cond v (h .1) (first t)) 0) (first b) (cond v (h .1) (first t))
     go ih true =
-        let q = ltb-true 0 (h .1) (and-first (ltb 0 (h .1)) (positive t) p) in
+        let q = ltb-true 0 (h .1) (and-left (ltb 0 (h .1)) (positive t) p) in
         rw (ne-eqb (h .1) 0 (λ e. omega arith))
     go ih false = ih

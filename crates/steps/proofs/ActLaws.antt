@@ -9,6 +9,7 @@ use lib.Dec.{eqb}
 use lib.ListN.{length, take, drop, drop-of-length-le}
 use lib.Seq.{take-all}
 use borrow.Author.Tests.{eq-eqb, ne-eqb, eqb-true, eqb-false}
+use Rattle.text.proofs.Laws.{and-true, and-false}
 use Rattle.calendar.specs.declared.Day.{Day}
 use Rattle.layout.specs.declared.frame.Header.{Header}
 use Rattle.calendar.specs.Calendar.{onDay}
@@ -51,14 +52,6 @@ abbrev settledBy : Found → Found → Found → Decided
 settledBy (At i) p k = record { answer = 0; slot = At i; row = k }
 settledBy Nothing p k = inSpare p k
 
-and-false : (a : Bool) → a && false ≡ false
-and-false true = refl
-and-false false = refl
-
-and-true : (a : Bool) → a && true ≡ false → a ≡ false
-and-true true e = e
-and-true false e = refl
-
 not-stored : (c : Code) → stores c ≡ false → isInsert c ≡ false
 not-stored Insert e = e
 not-stored Change e = refl
@@ -71,7 +64,7 @@ absent-insert : (R : List ℕ) (today : Day) (r : List ℕ) (c : Code) (d : Day)
 unfolding AllFail positive
 absent-insert R today r c d e =
     let t = first-zero (early R today r c d Nothing) refl e in
-    not-false (isInsert c) (and-true (not (isInsert c)) (t .1 .1 .0))
+    not-false (isInsert c) (sym (and-true (not (isInsert c))) ∙ t .1 .1 .0)
 
 -- what was found: the slot m of the number, the row k, the spare slot p
 module _ (R G : List ℕ) (h : Header) (r : List ℕ) (c : Code) (d : Day) (m k p : Found) where

@@ -14,7 +14,7 @@ use Rattle.layout.specs.declared.frame.Header.{Header}
 use Rattle.rules.specs.declared.Kind.{Kind}
 use Rattle.rules.specs.declared.Checked.the-variants.{Good, Refused}
 use Rattle.rules.specs.Takes.{Stores, lineAt, lineFault, linesIn, badLine, linesChecked, lineApplied, after, answerAt, answersTo, zerosIn, othersIn, lineSize, goodFile, refuse, frameChecked, checked, appliedFile}
-use Rattle.rules.proofs.WalkLaws.{Passed, find-hit}
+use Rattle.rules.proofs.WalkLaws.{Passed, find-hit, at-most-one}
 use Rattle.text.proofs.Laws.{and-right}
 use Rattle.layout.specs.declared.counter.Cycle.{Cycle}
 use Rattle.rules.specs.Slots.{registerSound, guideSound}
@@ -37,10 +37,6 @@ unfolding linesChecked
 lines-good k f n i h l p t = let e : i ≡ n = omega (arith, p .within) in rw (← l, ← e, p .nothing)
 
 -- ---- what is applied: after i lines
-
-at-most-one : (b : Bool) → cond b 1 0 ≤ 1
-at-most-one true = omega arith
-at-most-one false = omega arith
 
 pub count-zero : (done a m : ℕ) → a ≡ 0 → m ≡ done + 1 → m ≡ done + cond (eqb a 0) 1 0
 count-zero done a m z e = rw (eq-eqb a 0 z) e

@@ -2,7 +2,7 @@
 -- is asked, `f (drop i s) ≡ v`, as `f s`. Where a byte is left, f says it of that byte and the rest; where none is left, f says it of [].
 -- Assumes nothing.
 use mathlib.Core.Path.{_≡_, _∙_, refl, sym, ap}
-use mathlib.Core.Bool.{Bool, true, false, _&&_, cond, and-assoc}
+use mathlib.Core.Bool.{Bool, true, false, _&&_, _||_, cond, and-assoc}
 use mathlib.Core.List.{List, [], _∷_, _++_, append-nil, append-assoc}
 use Prim.Native.Nat.{ℕ, zero, suc, _+_, _*_, _-_, _/_, _%_, _^_, _≤_, _<_}
 use native.Mathlib.Nat.{pow-suc, pow-le-pow-right, add-sub-cancel-left}
@@ -31,6 +31,14 @@ and-true false = refl
 pub and-false : (a : Bool) → (a && false) ≡ false
 and-false true = refl
 and-false false = refl
+
+-- one of two suffices
+pub or-left : (a b : Bool) → a ≡ true → (a || b) ≡ true
+or-left a b h = rw h
+
+pub or-right : (a b : Bool) → b ≡ true → (a || b) ≡ true
+or-right true b h = refl
+or-right false b h = h
 
 pub left-at : (s : List ℕ) (i : ℕ) → i < length s → drop i s ≡ getD s i 0 ∷ drop (i + 1) s
 left-at s i h = rw (add-one, drop-cons s i 0)

@@ -14,7 +14,7 @@ use Rattle.text.specs.declared.Class.{Class}
 use Rattle.text.specs.declared.Class.the-variants.{Space, Digit}
 use Rattle.text.specs.declared.Spelled.the-variants.{Number, NoNumber}
 use Rattle.text.specs.Text.{inClass, allIn, blank, runOf, runsOf, digitOf, spelled, part}
-use Rattle.text.proofs.Laws.{and-left, and-right, left-at}
+use Rattle.text.proofs.Laws.{and-left, and-right, and-false, left-at}
 
 -- what holds of all bytes holds of the first n, and of those behind them
 pub all-take : (k : Class) (n : ℕ) (s : List ℕ) → allIn k s ≡ true → allIn k (take n s) ≡ true
@@ -37,11 +37,7 @@ all-meet k a zero s h = go (allIn k s) refl
   where
     go : (v : Bool) → allIn k s ≡ v → (allIn k (take a s) && allIn k s) ≡ allIn k s
     go true e = rw (all-take k a s e, e)
-    go false e = rw e (none (allIn k (take a s)))
-      where
-        none : (v : Bool) → (v && false) ≡ false
-        none true = refl
-        none false = refl
+    go false e = rw e (and-false (allIn k (take a s)))
 all-meet k zero (suc b) s h = absurd (omega arith)
 all-meet k (suc a) (suc b) [] h = refl
 all-meet k (suc a) (suc b) (x ∷ s) h =

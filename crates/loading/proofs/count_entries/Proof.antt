@@ -1,5 +1,6 @@
 use Rattle.rules.specs.Loads.{isEntry, entryAt, entriesIn}
-use Rattle.loading.proofs.WriteLaws.{at-most-one, Counted, counted-none, counted-more}
+use Rattle.rules.proofs.WalkLaws.{at-most-one}
+use Rattle.loading.proofs.WriteLaws.{Counted, counted-none, counted-more}
 use borrow.Author.Needs.{needs}
 use mathlib.Core.Path.{_≡_, ap, _∙_}
 use Prim.Native.Nat.{ℕ, _-_, _/_}
