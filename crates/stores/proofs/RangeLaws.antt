@@ -9,9 +9,9 @@ use lib.Dec.{leb}
 use borrow.Author.Tests.{lt-leb}
 use Rattle.text.specs.declared.Spelled.{Spelled}
 use Rattle.text.specs.declared.Spelled.the-variants.{Number, NoNumber}
-use Rattle.text.specs.Text.{onNumber, sameBytes}
+use Rattle.text.specs.Text.{onNumber}
 use Rattle.layout.specs.Fields.{rowStreetOf, rowPlaceOf, parityOf, lowOf, highOf, allows}
-use Rattle.rules.specs.Covers.{hits, over, meetFrom, meets, clash}
+use Rattle.rules.specs.Covers.{hits, meetFrom, meets, clash}
 use Rattle.rules.proofs.WalkLaws.{clash-bool}
 use Rattle.rules.proofs.ClashLaws.{allows-alike, near, clash-yes, hit-of, over-is}
 use Rattle.text.proofs.Laws.{and-false}
@@ -33,12 +33,6 @@ hits-not g n e = rw e (go (lowOf g) (highOf g))
 pub hits-below : (g : List ℕ) (n low : ℕ) → lowOf g ≡ Number low → n < low → false ≡ hits g n
 unfolding hits
 hits-below g n low e l = rw (e, lt-leb low n l) (no-number (highOf g))
-
--- no number of the other parity is covered
-pub over-not-allowed : (g street town : List ℕ) (n : ℕ) → allows (parityOf g) n ≡ false → false ≡ over g street town n
-unfolding over
-over-not-allowed g street town n e =
-    rw (← hits-not g n e) (sym (ap (λ x. sameBytes (rowStreetOf g) street && x) (and-false (sameBytes (rowPlaceOf g) town)) ∙ and-false (sameBytes (rowStreetOf g) street)))
 
 -- where two rows clash, they share a number, and its remainder is of both parities too
 pub clash-parity : (g h : List ℕ) → meetFrom (parityOf g) (parityOf h) 1 0 ≡ false → false ≡ clash g h

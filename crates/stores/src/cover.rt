@@ -26,15 +26,14 @@ pub fn is_hit(row: &[u8], n: u32) -> bool
     false
 }
 
-// Whether a row stands over house number n of a street in a place.
+// Whether a row stands over house number n of a street in a place. Its range is asked first: the walk hands on only rows
+// whose streets begin alike, and of one street's rows one has the number.
 pub fn is_over(row: &[u8], street: &[u8], place: &[u8], n: u32) -> bool
     ensures { λ r. ⌜ r ≡ over (now (row .entry)) (now (street .entry)) (now (place .entry)) n ⌝ }
 {
-    if field::allowed(field::parity(row), n) {
+    if is_hit(row, n) {
         if text::same(field::row_street(row), street) {
-            if text::same(field::row_place(row), place) {
-                return is_hit(row, n);
-            }
+            return text::same(field::row_place(row), place);
         }
     }
     false
@@ -140,13 +139,13 @@ fn may_meet(g: &[u8], h: &[u8]) -> bool
     meet_from(field::parity(g), field::parity(h), 1, 0)
 }
 
-// Whether some house number is covered by both rows.
+// Whether some house number is covered by both rows. As in is_over, streets are compared last.
 pub fn do_clash(g: &[u8], h: &[u8]) -> bool
     ensures { λ r. ⌜ r ≡ clash (now (g .entry)) (now (h .entry)) ⌝ }
 {
     if may_meet(g, h) {
-        if is_same_street(g, h) {
-            return do_meet(g, h);
+        if do_meet(g, h) {
+            return is_same_street(g, h);
         }
     }
     false

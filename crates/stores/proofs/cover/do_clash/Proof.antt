@@ -1,5 +1,6 @@
 use mathlib.Core.Path.{_∙_, sym}
 use denote.Ref.{now}
+use Rattle.text.proofs.Laws.{and-true, and-false}
 use Rattle.rules.specs.Covers.{clash}
 use Rattle.stores.proofs.RangeLaws.{clash-parity}
 use borrow.Author.Needs.{needs}
@@ -9,19 +10,19 @@ use Rattle.stores.proofs.cover.do_clash.Tie as tie
 may-meet-requires : tie.Need-may-meet-requires
 may-meet-requires c κs = search needs
 
-is-same-street-requires : tie.Need-is-same-street-requires
-is-same-street-requires c κs = search needs
-
 do-meet-requires : tie.Need-do-meet-requires
 do-meet-requires c κs = search needs
 
+is-same-street-requires : tie.Need-is-same-street-requires
+is-same-street-requires c κs = search needs
+
 returns : tie.Need-returns
 unfolding clash
-returns c = rw (← c .before .before .is-same-street .ensures, c .before .if2 .taken) (c .do-meet .ensures)
+returns c = rw (← c .before .before .do-meet .ensures, c .before .if2 .taken, and-true) (c .is-same-street .ensures)
 
 returns-2 : tie.Need-returns-2
 unfolding clash
-returns-2 c = rw (← c .before .is-same-street .ensures, c .if2 .left)
+returns-2 c = rw (← c .before .do-meet .ensures, c .if2 .left, and-false)
 
 returns-3 : tie.Need-returns-3
 returns-3 c = clash-parity (c .before .before .before .before .args .g .now) (c .before .before .before .before .args .h .now) (sym (c .before .may-meet .ensures) ∙ c .if1 .left)
@@ -31,8 +32,8 @@ do-clash-spec =
     tie.close
     (tie.spec
     may-meet-requires
-    is-same-street-requires
     do-meet-requires
+    is-same-street-requires
     returns
     returns-2
     returns-3)
