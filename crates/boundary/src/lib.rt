@@ -1,5 +1,4 @@
 // The C face of the takes and the load file: nothing but calls.
-ghost use mathlib.Core.Path.{_≡_};
 ghost use Rattle.rules.specs.Takes.{TakesData, TakesGuide};
 ghost use Rattle.rules.specs.Loads.{WritesLoad};
 use rules::Loaded;

@@ -1,6 +1,5 @@
 // The desk program: lines of hexadecimal from standard input, lines of hexadecimal to standard output. It only reads, calls and
 // writes: what a byte of input does is `desk_lines`.
-ghost use mathlib.Core.Path.{_≡_};
 ghost use Rattle.desk_lines.specs.Served.{benchOf};
 ghost use Rattle.desk.specs.Standing.{Stands};
 use desk_lines::Marks;

@@ -2,7 +2,7 @@
 ghost use mathlib.Core.Path.{_≡_};
 ghost use Prim.Native.Nat.{_+_, _*_, _/_, _<_};
 ghost use lib.ListN.{length};
-ghost use Rattle.desk_lines.specs.Hex.{isHexDigit, hexValue, isHex, bytesIn, hexDigit, hexOf, lineOf};
+ghost use Rattle.desk_lines.specs.Hex.{isHexDigit, hexValue, isHex, bytesIn, hexDigit, lineOf};
 
 fn is_digit(b: u8) -> bool
     ensures { λ r. ⌜ r ≡ isHexDigit b ⌝ }

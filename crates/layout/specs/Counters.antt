@@ -1,9 +1,9 @@
 -- 01, "Header" and "Trailer": the cycle and the record count.
 -- Assumes nothing.
 use Prim.Native.Nat.{ℕ, _+_}
-use mathlib.Core.List.{List, [], _∷_}
-use mathlib.Core.Bool.{Bool, true, false, _&&_, _||_, not, cond}
-use lib.Dec.{leb, ltb, eqb}
+use mathlib.Core.List.{List}
+use mathlib.Core.Bool.{Bool, false, _&&_, _||_, not, cond}
+use lib.Dec.{ltb, eqb}
 use lib.ListN.{length, getD, drop}
 use Rattle.text.specs.declared.Class.the-variants.{Space, Digit}
 use Rattle.text.specs.Text.{allIn, runOf, spelled, onNumber}

@@ -2,7 +2,7 @@
 -- Assumes nothing.
 use Prim.Native.Nat.{ℕ}
 use mathlib.Core.List.{List, [], _∷_}
-use mathlib.Core.Bool.{Bool, true, false, _&&_, cond}
+use mathlib.Core.Bool.{Bool, false, _&&_, cond}
 use lib.Dec.{eqb}
 use Rattle.text.specs.Text.{sameBytes, putAt, spaces, leftDigits, rightDigits}
 use Rattle.calendar.specs.Calendar.{dayOf, onDay}

@@ -1,14 +1,12 @@
 -- 01, "Field rules": what each rule asks of a field, and the first fault of a line by its table.
 -- Assumes nothing.
-use Prim.Native.Nat.{ℕ, _+_, _-_}
+use Prim.Native.Nat.{ℕ, _-_}
 use mathlib.Core.List.{List, [], _∷_}
 use mathlib.Core.Bool.{Bool, true, false, _&&_, _||_, cond}
-use lib.Dec.{leb, ltb, eqb}
+use lib.Dec.{ltb, eqb}
 use lib.ListN.{length, getD}
 use Rattle.text.specs.declared.Class.the-variants.{Printable, Space, Digit, Capital, CapitalOrDigit}
 use Rattle.text.specs.Text.{allIn, allOf, blank, runOf, runsOf, sameBytes, onNumber, part}
-use Rattle.calendar.specs.declared.Date.{Date}
-use Rattle.calendar.specs.declared.Date.the-variants.{Day, NoDate}
 use Rattle.calendar.specs.Calendar.{dayOf, onDay}
 use Rattle.layout.specs.Tables.{free, leftText, named, code, digits, house, direction, oneDigit, zeroToFive, capitals}
 use Rattle.layout.specs.Tables.{spaceOrC, zone, companyLetters, mmddyy, star, rowZone, rowCode, opening, closing, turn, tally}

@@ -6,7 +6,6 @@ use Prim.Native.Nat.{ℕ}
 use native.Mathlib.Omega.{arith}
 use lib.ListN.{getD, replicate}
 use Rattle.layout.specs.declared.frame.Header.{Header}
-use Rattle.layout.specs.Fields.{companyOf}
 use Rattle.rules.specs.Slots.{slots, slotAt, recordOf, isHeld}
 use Rattle.rules.specs.Records.{applied}
 use Rattle.rules.specs.Lookups.{seen}

@@ -27,8 +27,7 @@ use Rattle.rules.specs.declared.Code.the-variants.{Insert, Change, Delet
 use Rattle.rules.specs.declared.RowCode.{RowCode}
 use Rattle.rules.specs.declared.RowCode.the-variants.{Insert as InsertRow, Delete as DeleteRow, NoCode}
 use Rattle.rules.specs.declared.Filed.the-variants.{Record, NoRecord}
-use Rattle.rules.specs.declared.Found.{Found}
-use Rattle.rules.specs.declared.Found.the-variants.{At, Nothing}
+use Rattle.rules.specs.declared.Found.the-variants.{Nothing}
 use Rattle.rules.specs.declared.Checked.{Checked}
 use Rattle.rules.specs.declared.Checked.the-variants.{Good, Refused}
 use Rattle.rules.specs.Walks.{find, isNothing}
@@ -37,7 +36,7 @@ use Rattle.rules.specs.Records.{codedOf, filedOf, stores, stateAfter, sh
 use Rattle.rules.specs.Rows.{rowCodeOf, rowApplied}
 use Rattle.rules.specs.Takes.{Stores, lineSize, lineFault, linesIn, lineAt, checked, refusedFile, lineApplied, after, answerAt, appliedFile, taken}
 use Rattle.rules.specs.Demands.{File, Office, start, taking, run, presentAt, SoundStores, NoneUnsound}
-use Rattle.rules.proofs.WalkLaws.{clash-bool, not-false, not-true, find-some, find-none, find-nowhere, is-nothing}
+use Rattle.rules.proofs.WalkLaws.{clash-bool, not-false, not-true, find-none, find-nowhere, is-nothing}
 use Rattle.rules.proofs.SlotLaws.{Whole, WholeRow, state-slot, day-slot, record-slot, present-row, row-slot, length-row-slot, length-free, whole-row-at, zero-zeros, zero-row-sound, empty-sound, empty-guide-sound}
 use Rattle.rules.proofs.EsnLaws.{date-shown, function-shown}
 use Rattle.rules.proofs.View.{Place, own, new, Content, stored, kept, Took, RowTook, added, removed, late}

@@ -1,7 +1,7 @@
 -- How large the numbers are that a lookup answers with.
 -- Assumes nothing.
-use Prim.Native.Nat.{ℕ, _+_, _/_, _%_, _≤_, _<_}
-use mathlib.Core.Path.{_≡_, refl, ap}
+use Prim.Native.Nat.{ℕ, _/_, _%_, _≤_}
+use mathlib.Core.Path.{_≡_, refl}
 use mathlib.Core.List.{List}
 use mathlib.Core.Bool.{Bool, true, false, _&&_, cond}
 use lib.Dec.{leb, eqb}
@@ -12,7 +12,7 @@ use Rattle.text.proofs.Laws.{and-left, and-right}
 use Rattle.rules.specs.declared.Found.{Found}
 use Rattle.rules.specs.declared.Found.the-variants.{At, Nothing}
 use Rattle.rules.specs.declared.Seen.{Seen}
-use Rattle.rules.specs.Walks.{find, walked, onFound}
+use Rattle.rules.specs.Walks.{onFound}
 use Rattle.text.specs.Text.{sameBytes}
 use Rattle.layout.specs.Fields.{numberOf}
 use Rattle.rules.specs.Slots.{recordOf, slots, slotAt, stateOf, slotSize, goodLength, isUsed}

@@ -8,7 +8,7 @@ use mathlib.Core.Path.{_≡_}
 use mathlib.Core.Logic.{_≢_}
 use mathlib.Core.List.{List, [], _∷_}
 use mathlib.Core.Bool.{true}
-use lib.ListN.{length, drop, getD}
+use lib.ListN.{drop, getD}
 use Rattle.text.specs.Text.{memberOf}
 use Rattle.layout.specs.declared.frame.Header.{Header}
 use Rattle.rules.specs.declared.Kind.{Kind}

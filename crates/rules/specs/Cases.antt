@@ -1,12 +1,11 @@
 -- P1 to P10 of the description, as a single table: each is computed.
 -- Assumes nothing.
-use Prim.Native.Nat.{ℕ, _+_, _/_, _%_}
+use Prim.Native.Nat.{ℕ, _+_}
 use mathlib.Core.Path.{_≡_, refl}
 use mathlib.Core.List.{List, [], _∷_, _++_}
 use mathlib.Core.Bool.{Bool, true, false, _&&_, not}
 use lib.Dec.{eqb}
-use lib.ListN.{replicate}
-use Rattle.text.specs.Text.{runsOf, spelled, spaces, digits, width, widthIn, amongSpaces, leftDigits}
+use Rattle.text.specs.Text.{runsOf, spelled, spaces, digits, width, amongSpaces, leftDigits}
 use Rattle.calendar.specs.declared.Day.{Day}
 use Rattle.calendar.specs.Calendar.{dayOf, onDay}
 use Rattle.layout.specs.Counters.{givenCycle, isNextOf}

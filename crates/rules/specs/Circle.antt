@@ -7,9 +7,8 @@ use Prim.Native.Nat.{ℕ, _*_, _≤_, _<_}
 use mathlib.Core.Path.{_≡_}
 use mathlib.Core.Logic.{_≢_}
 use mathlib.Core.List.{List, _++_}
-use mathlib.Core.Bool.{true, false}
+use mathlib.Core.Bool.{true}
 use lib.ListN.{length, take, drop, getD, replicate}
-use Rattle.calendar.specs.declared.Day.{Day}
 use Rattle.calendar.specs.declared.Date.the-variants.{Day as aDay}
 use Rattle.layout.specs.Tables.{dataRecord, startOf, function, source}
 use Rattle.layout.specs.Counters.{givenCycle, isNextOf}
@@ -17,7 +16,7 @@ use Rattle.layout.specs.Fields.{numberOf, esnOf, rowEsnOf, dateOf}
 use Rattle.rules.specs.declared.Kind.the-variants.{Data}
 use Rattle.rules.specs.declared.Found.the-variants.{At}
 use Rattle.rules.specs.Walks.{count}
-use Rattle.rules.specs.Slots.{slotSize, slots, slotAt, stateOf, slotDay, recordOf, isHeld, rowSlotAt, rowOf, guideSound}
+use Rattle.rules.specs.Slots.{slotSize, slotAt, stateOf, slotDay, recordOf, isHeld, rowSlotAt, rowOf, guideSound}
 use Rattle.rules.specs.Records.{findRow}
 use Rattle.rules.specs.Takes.{Outcome, taken}
 use Rattle.rules.specs.Loads.{entryAt, entriesIn, loaded}

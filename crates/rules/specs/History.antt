@@ -1,10 +1,9 @@
 -- What a take adds to the history: one ordered list of the accepted records and rows, the newest first.
 -- Assumes nothing.
 use Prim.Native.Nat.{ℕ, zero, suc}
-use mathlib.Core.List.{List, [], _∷_}
-use mathlib.Core.Bool.{Bool, cond}
+use mathlib.Core.List.{List, _∷_}
+use mathlib.Core.Bool.{cond}
 use lib.Dec.{eqb}
-use lib.ListN.{length}
 use Rattle.layout.specs.declared.frame.Header.{Header}
 use Rattle.layout.specs.Counters.{givenCycle}
 use Rattle.rules.specs.declared.Kind.{Kind}

@@ -15,7 +15,6 @@ use Rattle.rules.specs.declared.Code.the-variants.{Insert, Change, Delet
 use Rattle.rules.specs.declared.Filed.{Filed}
 use Rattle.rules.specs.declared.Filed.the-variants.{Record, NoRecord}
 use Rattle.rules.specs.declared.Found.{Found}
-use Rattle.rules.specs.declared.Found.the-variants.{At, Nothing}
 use Rattle.rules.specs.Walks.{find, first, orElse, isNothing, onFound}
 use Rattle.rules.specs.Slots.{slots, slotAt, withSlot, stateOf, slotDay, recordOf, slotOf, isFree, isHeld, isOpen, isResting, isUsed, isLive, rowSlots, rowSlotAt, isPresent, rowOf}
 use Rattle.rules.specs.Covers.{covers}

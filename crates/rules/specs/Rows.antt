@@ -2,7 +2,7 @@
 -- Assumes nothing.
 use Prim.Native.Nat.{ℕ}
 use mathlib.Core.List.{List, [], _∷_}
-use mathlib.Core.Bool.{Bool, true, false, _&&_, not, cond}
+use mathlib.Core.Bool.{Bool, false, _&&_, not, cond}
 use lib.Dec.{eqb}
 use lib.ListN.{length}
 use Rattle.layout.specs.declared.frame.Header.{Header}

@@ -2,7 +2,7 @@
 -- Assumes nothing.
 use Prim.Native.Nat.{ℕ, _+_, _*_, _/_, _%_}
 use mathlib.Core.List.{List, [], _∷_, _++_}
-use mathlib.Core.Bool.{Bool, true, false, _&&_, _||_, not, cond}
+use mathlib.Core.Bool.{Bool, false, _&&_, _||_, not, cond}
 use lib.Dec.{leb, eqb}
 use lib.ListN.{length, take, drop, getD, replicate}
 use Rattle.text.specs.Text.{part, allEqual, putAt}
@@ -11,7 +11,6 @@ use Rattle.calendar.specs.Calendar.{storedDay, dayBytes, isBefore, onCalendar, 
 use Rattle.layout.specs.Tables.{dataRecord, guideRow}
 use Rattle.layout.specs.Fields.{functionOf, hasEsn, dateOf, rowFunctionOf}
 use Rattle.layout.specs.Rules.{recordFault, rowFault}
-use Rattle.rules.specs.declared.Found.{Found}
 use Rattle.rules.specs.Walks.{find, isNothing}
 
 -- ---- a store of places of w bytes, one after the other

@@ -3,8 +3,8 @@
 use Prim.Native.Nat.{ℕ, zero, suc, _+_, _*_, _-_, _/_, _%_}
 use mathlib.Core.Path.{_≡_}
 use mathlib.Core.List.{List, [], _∷_, _++_}
-use mathlib.Core.Bool.{Bool, true, false, _&&_, not, cond}
-use lib.Dec.{leb, ltb, eqb}
+use mathlib.Core.Bool.{Bool, _&&_, not, cond}
+use lib.Dec.{leb, eqb}
 use lib.ListN.{length, drop}
 use Rattle.text.specs.Text.{part}
 use Rattle.layout.specs.declared.frame.Header.{Header}
@@ -15,7 +15,6 @@ use Rattle.layout.specs.Rules.{recordFault, rowFault}
 use Rattle.layout.specs.Frames.{headerOf, trailerOf, onHeader, onTrailer}
 use Rattle.rules.specs.declared.Kind.{Kind}
 use Rattle.rules.specs.declared.Kind.the-variants.{Data, Guide}
-use Rattle.rules.specs.declared.Found.{Found}
 use Rattle.rules.specs.declared.Refusal.{Refusal}
 use Rattle.rules.specs.declared.Checked.{Checked}
 use Rattle.rules.specs.declared.Checked.the-variants.{Good, Refused}

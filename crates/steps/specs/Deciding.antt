@@ -3,7 +3,7 @@
 -- Assumes nothing.
 use Prim.Native.Nat.{ℕ}
 use mathlib.Core.List.{List, [], _∷_, _++_}
-use mathlib.Core.Bool.{Bool, true, false, _&&_, not, cond}
+use mathlib.Core.Bool.{Bool, true, _&&_, not, cond}
 use lib.Dec.{ltb, eqb}
 use Rattle.calendar.specs.declared.Day.{Day}
 use Rattle.calendar.specs.Calendar.{isBefore}

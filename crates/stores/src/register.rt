@@ -1,7 +1,7 @@
 // The register's slots of 520 bytes: what is read from one, the walks over them, and the one place that writes one.
 ghost use mathlib.Core.Path.{_≡_};
 ghost use Rattle.rules.specs.Walks.{sought};
-ghost use Rattle.rules.specs.Slots.{slots, stateOf, isUsed, isLive, slotDay, recordOf, slotHead, restated, written};
+ghost use Rattle.rules.specs.Slots.{slots, stateOf, isUsed, isLive, slotDay, recordOf, restated, written};
 ghost use Rattle.rules.specs.Records.{isOf, hasNumber, isFreeSlot, freeAt, isReusable, reusableAt};
 ghost use Rattle.rules.specs.Rows.{isEntryUnder, entryUnder};
 ghost use Rattle.text.specs.Text.{sameBytes};

@@ -1,7 +1,6 @@
 // The checks of a file, in the order of the refusals. Nothing is written here.
 ghost use mathlib.Core.Path.{_≡_};
 ghost use Prim.Native.Nat.{_≤_};
-ghost use lib.ListN.{length};
 ghost use Rattle.rules.specs.Takes.{lineFault, linesIn, goodFile, headerLine, trailerLine, lineAt, refuse, linesChecked, trailerChecked, frameChecked, checked};
 use layout::counter::Cycle;
 use layout::frame;
