@@ -27,7 +27,7 @@ pub fn is_hit(row: &[u8], n: u32) -> bool
 }
 
 // Whether a row stands over house number n of a street in a place. Its range is asked first: the walk hands on only rows
-// whose streets begin alike, and of one street's rows one has the number.
+// whose streets begin alike, and of one street's rows few have the number.
 pub fn is_over(row: &[u8], street: &[u8], place: &[u8], n: u32) -> bool
     ensures { λ r. ⌜ r ≡ over (now (row .entry)) (now (street .entry)) (now (place .entry)) n ⌝ }
 {
