@@ -6,11 +6,11 @@ use mathlib.Core.List.{List, [], _∷_}
 use Prim.Native.Nat.{ℕ, _+_, _≤_, _<_}
 use lib.ListN.{length, drop, getD}
 use Rattle.text.proofs.Laws.{turn, ended}
-use Rattle.desk_lines.specs.declared.Marks.{Marks}
-use Rattle.desk_lines.specs.declared.Fed.{Fed}
-use Rattle.desk_lines.specs.Desk.{fed, fedAll}
-use Rattle.desk_lines.specs.Served.{Bench, isReady, deskOf, served, Serves}
-use Rattle.desk_lines.proofs.Programs.{fed-stays, one-served}
+use Rattle.desk_rules.specs.declared.Marks.{Marks}
+use Rattle.desk_rules.specs.declared.Fed.{Fed}
+use Rattle.desk_rules.specs.Desk.{fed, fedAll}
+use Rattle.desk_rules.specs.Served.{Bench, isReady, deskOf, served, Serves}
+use Rattle.desk_rules.proofs.Programs.{fed-stays, one-served}
 use Rattle.desk.specs.Standing.{Standing, standing}
 
 -- one byte more

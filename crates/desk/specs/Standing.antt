@@ -3,9 +3,9 @@
 use mathlib.Core.Path.{_≡_}
 use mathlib.Core.List.{List, [], _∷_}
 use Prim.Native.Nat.{ℕ}
-use Rattle.desk_lines.specs.declared.Marks.{Marks}
-use Rattle.desk_lines.specs.Desk.{fed}
-use Rattle.desk_lines.specs.Served.{Bench, served}
+use Rattle.desk_rules.specs.declared.Marks.{Marks}
+use Rattle.desk_rules.specs.Desk.{fed}
+use Rattle.desk_rules.specs.Served.{Bench, served}
 
 -- the marks and the lent bytes
 pub record Standing : Type 0 where

@@ -1,9 +1,9 @@
 // The desk program: lines of hexadecimal from standard input, lines of hexadecimal to standard output. It only reads, calls and
 // writes: what a byte of input does is `desk_lines`.
-ghost use Rattle.desk_lines.specs.Served.{benchOf};
+ghost use Rattle.desk_rules.specs.Served.{benchOf};
 ghost use Rattle.desk.specs.Standing.{Stands};
-use desk_lines::Marks;
 use desk_lines::desk;
+use desk_rules::Marks;
 
 const MOST_LINES: u32 = 65535;
 

@@ -4,19 +4,17 @@ ghost use mathlib.Core.Bool.{true};
 ghost use mathlib.Core.List.{List};
 ghost use Prim.Native.Nat.{ℕ, _+_, _≤_, _<_};
 ghost use lib.ListN.{length, drop, getD};
-ghost use Rattle.desk_lines.specs.Hex.{bytesIn};
-ghost use Rattle.desk_lines.specs.Desk.{emptyDesk, mostCollected, mostTyped, mostLines, silent, framed, isReadable, lineEnded, typed, fed, ended};
-ghost use Rattle.desk_lines.specs.Served.{benchOf, mostSaid, hasRoom, marksOf, Serves, Laid, Lays};
-use crate::Fed;
-use crate::Marks;
+ghost use Rattle.desk_rules.specs.Hex.{bytesIn};
+ghost use Rattle.desk_rules.specs.Desk.{emptyDesk, mostCollected, mostTyped, mostLines, silent, framed, isReadable, lineEnded, typed, fed, ended};
+ghost use Rattle.desk_rules.specs.Served.{benchOf, mostSaid, hasRoom, marksOf, Serves, Laid, Lays};
 use crate::frames;
 use crate::hex;
+use desk_rules::Fed;
+use desk_rules::Marks;
 
 const MOST_LINES: u32 = 65535;
 
 const MOST_TYPED: usize = 2050;
-
-const MOST_COLLECTED: usize = 65424;
 
 const MOST_SAID: usize = 2936;
 
@@ -39,8 +37,8 @@ pub fn empty() -> Marks
 fn is_ready(m: Marks, collection: usize, line: usize, out: usize) -> bool
     ensures { λ r. ⌜ r ≡ hasRoom m collection line out ⌝ }
 {
-    ((MOST_COLLECTED <= collection) & ((MOST_TYPED + 1 <= line) & (MOST_SAID <= out)))
-        & ((m.collected <= MOST_COLLECTED)
+    ((frames::MOST_COLLECTED <= collection) & ((MOST_TYPED + 1 <= line) & (MOST_SAID <= out)))
+        & ((m.collected <= frames::MOST_COLLECTED)
             & ((m.typed <= MOST_TYPED + 1) & (m.lines <= MOST_LINES)))
 }
 
@@ -159,7 +157,7 @@ fn feed_ready(
     if MOST_LINES <= m.lines {
         return Fed { marks: m, said: 0 };
     }
-    if b == 10 {
+    if b == b'\n' {
         return end_line(
             m,
             &mut register[..],

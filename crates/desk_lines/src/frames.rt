@@ -3,13 +3,22 @@ ghost use mathlib.Core.Path.{_≡_};
 ghost use mathlib.Core.List.{List};
 ghost use Prim.Native.Nat.{ℕ, _≤_};
 ghost use lib.ListN.{length};
-ghost use Rattle.desk_lines.specs.Desk.{mostCollected, unread, collecting, takingGuide, takingData, looking, framed};
-ghost use Rattle.desk_lines.specs.Served.{benchOf, mostSaid, Lays};
-use crate::Fed;
-use crate::Marks;
+ghost use Rattle.desk_rules.specs.Desk.{mostCollected, unread, collecting, takingGuide, takingData, looking, framed};
+ghost use Rattle.desk_rules.specs.Served.{benchOf, mostSaid, Lays};
 use crate::say;
+use desk_rules::Fed;
+use desk_rules::Marks;
 
-const MOST_COLLECTED: usize = 65424;
+// The codes of the frames that the desk reads.
+const COLLECT: u8 = 1;
+
+const TAKE_GUIDE: u8 = 2;
+
+const TAKE_DATA: u8 = 3;
+
+const LOOK: u8 = 4;
+
+pub const MOST_COLLECTED: usize = 65424;
 
 const MOST_ANSWERS: usize = 325;
 
@@ -129,16 +138,16 @@ pub fn framed(
         (benchOf (now (register .entry)) (now (guide .entry)) (now (collection .entry)) l (now (out .entry))) r
         (benchOf (now (register .exit)) (now (guide .exit)) (now (collection .exit)) l (now (out .exit)))) ⌝ }
 {
-    if code == 1 {
+    if code == COLLECT {
         return collect(m, &mut collection[..], &mut out[..], bytes);
     }
-    if code == 4 {
+    if code == LOOK {
         return look(m, &register[..], &mut out[..], bytes);
     }
     if bytes.len() != 0 {
         return unread(m, &mut out[..]);
     }
-    if code == 2 {
+    if code == TAKE_GUIDE {
         return take_guide(
             m,
             &register[..],
@@ -147,7 +156,7 @@ pub fn framed(
             &mut out[..],
         );
     }
-    if code == 3 {
+    if code == TAKE_DATA {
         return take_data(
             m,
             &mut register[..],

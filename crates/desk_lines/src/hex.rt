@@ -2,25 +2,30 @@
 ghost use mathlib.Core.Path.{_≡_};
 ghost use Prim.Native.Nat.{_+_, _*_, _/_, _<_};
 ghost use lib.ListN.{length};
-ghost use Rattle.desk_lines.specs.Hex.{isHexDigit, hexValue, isHex, bytesIn, hexDigit, lineOf};
+ghost use Rattle.desk_rules.specs.Hex.{isHexDigit, hexValue, isHex, bytesIn, hexDigit, lineOf};
+
+// A letter less this is its value, from 10 on.
+const TEN_CAPITAL: u8 = b'A' - 10;
+
+const TEN_SMALL: u8 = b'a' - 10;
 
 fn is_digit(b: u8) -> bool
     ensures { λ r. ⌜ r ≡ isHexDigit b ⌝ }
 {
-    ((48 <= b) & (b <= 57)) | (((65 <= b) & (b <= 70)) | ((97 <= b) & (b <= 102)))
+    ((b'0' <= b) & (b <= b'9')) | (((b'A' <= b) & (b <= b'F')) | ((b'a' <= b) & (b <= b'f')))
 }
 
 fn value(b: u8) -> u8
     ensures { λ r. ⌜ (r ≡ hexValue b) × (r < 16) ⌝ }
 {
-    if (48 <= b) & (b <= 57) {
-        return b - 48;
+    if (b'0' <= b) & (b <= b'9') {
+        return b - b'0';
     }
-    if (65 <= b) & (b <= 70) {
-        return b - 55;
+    if (b'A' <= b) & (b <= b'F') {
+        return b - TEN_CAPITAL;
     }
-    if (97 <= b) & (b <= 102) {
-        return b - 87;
+    if (b'a' <= b) & (b <= b'f') {
+        return b - TEN_SMALL;
     }
     0
 }
@@ -60,9 +65,9 @@ fn digit(n: u8) -> u8
     ensures { λ r. ⌜ r ≡ hexDigit n ⌝ }
 {
     if n < 10 {
-        return 48 + n;
+        return b'0' + n;
     }
-    87 + n
+    TEN_SMALL + n
 }
 
 // The line of a frame, its newline too.
@@ -80,5 +85,5 @@ pub fn encode(frame: &[u8], line: &mut [u8])
         i += 1;
     }
     let last = 2 * frame.len();
-    line[last] = 10;
+    line[last] = b'\n';
 }

@@ -2,14 +2,29 @@
 ghost use mathlib.Core.Path.{_≡_};
 ghost use Prim.Native.Nat.{_+_, _*_, _/_, _%_, _≤_};
 ghost use lib.ListN.{length};
-ghost use Rattle.desk_lines.specs.Hex.{lineOf};
-ghost use Rattle.desk_lines.specs.Desk.{mostAnswers, unreadSaid, answersSaid, countsSaid, refusalSaid, takeSaid, lookSaid};
-ghost use Rattle.desk_lines.specs.Served.{Writes, mostSaid};
+ghost use Rattle.desk_rules.specs.Hex.{lineOf};
+ghost use Rattle.desk_rules.specs.Desk.{mostAnswers, unreadSaid, answersSaid, countsSaid, refusalSaid, takeSaid, lookSaid};
+ghost use Rattle.desk_rules.specs.Served.{Writes, mostSaid};
 use crate::hex;
 use rules::Seen;
 use rules::Taken;
 
-const ANSWER: usize = 9;
+// The codes of the frames that the desk writes.
+const ANSWER: u8 = 0xa0;
+
+const COUNTS: u8 = 0xa1;
+
+const REFUSAL: u8 = 0xa2;
+
+const SEEN: u8 = 0xa3;
+
+const UNREAD: u8 = 0xa4;
+
+// The state that is shown where no number was given.
+const NO_STATE: u8 = 0xff;
+
+// How long the line of an answer is.
+const ANSWER_LINE: usize = 9;
 
 // A number's two bytes.
 fn high(n: u32) -> u8
@@ -39,7 +54,7 @@ pub fn unread(out: &mut [u8], n: u32) -> usize
     requires { ⌜ mostSaid ≤ length (now out) ⌝ }
     ensures { λ r. ⌜ Writes (unreadSaid n) (now (out .entry)) r (now (out .exit)) ⌝ }
 {
-    let frame = [164, high(n), low(n)];
+    let frame = [UNREAD, high(n), low(n)];
     line(&mut out[..], &frame)
 }
 
@@ -51,13 +66,13 @@ fn answers(out: &mut [u8], given: &[u8], n: usize) -> usize
     let mut i: usize = 0;
     while i < n {
         let place = (i + 1) as u32;
-        let frame = [160, high(place), low(place), given[i]];
-        let a = ANSWER * i;
-        let e = a + ANSWER;
+        let frame = [ANSWER, high(place), low(place), given[i]];
+        let a = ANSWER_LINE * i;
+        let e = a + ANSWER_LINE;
         hex::encode(&frame, &mut out[a..e]);
         i += 1;
     }
-    ANSWER * n
+    ANSWER_LINE * n
 }
 
 fn counts(out: &mut [u8], t: Taken) -> usize
@@ -66,7 +81,7 @@ fn counts(out: &mut [u8], t: Taken) -> usize
 {
     let done = t.done;
     let undone = t.undone;
-    let frame = [161, high(done), low(done), high(undone), low(undone)];
+    let frame = [COUNTS, high(done), low(done), high(undone), low(undone)];
     line(&mut out[..], &frame)
 }
 
@@ -78,7 +93,7 @@ fn refused(out: &mut [u8], t: Taken) -> usize
     let place = t.place;
     let position = t.position;
     let frame = [
-        162,
+        REFUSAL,
         low(refusal),
         high(place),
         low(place),
@@ -107,11 +122,11 @@ pub fn seen(out: &mut [u8], s: Seen) -> usize
     ensures { λ r. ⌜ Writes (lookSaid s) (now (out .entry)) r (now (out .exit)) ⌝ }
 {
     if s.refusal != 0 {
-        let frame = [163, 255, 0, 0];
+        let frame = [SEEN, NO_STATE, 0, 0];
         return line(&mut out[..], &frame);
     }
     let state = s.state;
     let looked = s.looked;
-    let frame = [163, low(state), high(looked), low(looked)];
+    let frame = [SEEN, low(state), high(looked), low(looked)];
     line(&mut out[..], &frame)
 }

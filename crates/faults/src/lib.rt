@@ -3,10 +3,10 @@ ghost use mathlib.Core.Path.{_≡_};
 ghost use mathlib.Core.Bool.{false};
 ghost use Rattle.layout.specs.Tables.{dataRecord, guideRow};
 ghost use Rattle.layout.specs.Rules.{faultIn, isLax, recordFault, rowFault};
-use layout::check;
 use layout::field;
 use layout::table::RECORD;
 use layout::table::ROW;
+use lines::check;
 use text::Class;
 
 mod look;
@@ -15,7 +15,7 @@ mod look;
 fn is_lax_code(b: u8) -> bool
     ensures { λ r. ⌜ r ≡ isLax b ⌝ }
 {
-    (b == 68) | (b == 85)
+    (b == b'D') | (b == b'U')
 }
 
 // The first fault of a data record, sought by its table.

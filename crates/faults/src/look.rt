@@ -13,7 +13,6 @@ ghost use Rattle.layout.specs.Tables.{function, prefix, location, mainNpa, zip,
 ghost use Rattle.layout.specs.Fields.{endIn};
 ghost use Rattle.layout.specs.Rules.{isDate, keeps, houseFault, endFault, highFault, parityFault, faultIn};
 ghost use Rattle.faults.specs.Look.{keptAt, faultFrom};
-use layout::check;
 use layout::field;
 use layout::place;
 use layout::table::CODE;
@@ -22,12 +21,9 @@ use layout::table::ROW_CODE;
 use layout::table::SPACE_OR_C;
 use layout::table::STAR;
 use layout::table::ZERO_TO_FIVE;
+use lines::check;
 use text::Class;
 use text::Spelled;
-
-const RECORD: usize = 512;
-
-const ROW: usize = 200;
 
 fn are_four_blank(s: &[u8], i: usize) -> bool
     requires { ⌜ i + 4 ≤ length (now s) ⌝ }
@@ -48,7 +44,7 @@ fn is_text_at(s: &[u8], i: usize, n: usize) -> bool
     ensures { λ r. ⌜ (r ≡ true → (lax : Bool) → keptAt i n leftText lax (now (s .entry)) ≡ true) ⌝ }
 {
     if text::is_there(s, i, n) {
-        if text::byte_of(s, i) != 32 {
+        if text::byte_of(s, i) != b' ' {
             return true;
         }
         let e = i + n;
@@ -62,7 +58,7 @@ fn is_short_text_at(s: &[u8], i: usize, n: usize) -> bool
     ensures { λ r. ⌜ (r ≡ true → (lax : Bool) → keptAt i n leftText lax (now (s .entry)) ≡ true) ⌝ }
 {
     if text::is_there(s, i, n) {
-        if text::byte_of(s, i) != 32 {
+        if text::byte_of(s, i) != b' ' {
             return true;
         }
         if 4 <= n {
@@ -79,7 +75,7 @@ fn is_middling_text_at(s: &[u8], i: usize, n: usize) -> bool
     ensures { λ r. ⌜ (r ≡ true → (lax : Bool) → keptAt i n leftText lax (now (s .entry)) ≡ true) ⌝ }
 {
     if text::is_there(s, i, n) {
-        if text::byte_of(s, i) != 32 {
+        if text::byte_of(s, i) != b' ' {
             return true;
         }
         if 8 <= n {
@@ -96,7 +92,7 @@ fn is_named_at(lax: bool, s: &[u8], i: usize, n: usize) -> bool
     ensures { λ r. ⌜ (r ≡ true → keptAt i n named lax (now (s .entry)) ≡ true) ⌝ }
 {
     if text::is_there(s, i, n) {
-        if text::byte_of(s, i) != 32 {
+        if text::byte_of(s, i) != b' ' {
             return true;
         }
         let e = i + n;
@@ -111,8 +107,8 @@ fn keeps_one(rule: usize, lax: bool, b: u8) -> bool
 {
     match rule {
         CODE => text::member(b"CDIUM", b),
-        ONE_DIGIT => (lax & (b == 32)) | text::in_class(Class::Digit, b),
-        ZERO_TO_FIVE => (lax & (b == 32)) | text::member(b"012345", b),
+        ONE_DIGIT => (lax & (b == b' ')) | text::in_class(Class::Digit, b),
+        ZERO_TO_FIVE => (lax & (b == b' ')) | text::member(b"012345", b),
         SPACE_OR_C => text::member(b" C", b),
         STAR => text::member(b"*", b),
         ROW_CODE => text::member(b"ID", b),
@@ -134,7 +130,7 @@ fn is_direction_at(s: &[u8], i: usize) -> bool
     ensures { λ r. ⌜ (r ≡ true → (lax : Bool) → keptAt i 2 direction lax (now (s .entry)) ≡ true) ⌝ }
 {
     if text::is_there(s, i, 2) {
-        if s[i + 1] == 32 {
+        if s[i + 1] == b' ' {
             return text::member(b" NSEW", s[i]);
         }
         return text::member(b"NS", s[i]) & text::member(b"EW", s[i + 1]);
@@ -349,7 +345,7 @@ fn has_good_end(rec: &[u8]) -> bool
 pub fn is_good_record(lax: bool, rec: &[u8]) -> bool
     ensures { λ r. ⌜ (r ≡ true → allIn Printable (now (rec .entry)) ≡ true → faultIn lax (now (rec .entry)) dataRecord ≡ 0) ⌝ }
 {
-    if rec.len() == RECORD {
+    if rec.len() == place::RECORD_SIZE {
         if has_good_number(rec) {
             if has_good_street(lax, rec) {
                 if has_good_customer(lax, rec) {
@@ -419,7 +415,7 @@ fn has_good_row_end(row: &[u8]) -> bool
 pub fn is_good_row(row: &[u8]) -> bool
     ensures { λ r. ⌜ (r ≡ true → allIn Printable (now (row .entry)) ≡ true → faultIn false (now (row .entry)) guideRow ≡ 0) ⌝ }
 {
-    if row.len() == ROW {
+    if row.len() == place::ROW_SIZE {
         if has_good_row_street(row) {
             if is_range(row) {
                 if has_good_row_place(row) {

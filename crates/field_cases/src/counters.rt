@@ -18,7 +18,7 @@ fn follows(given: u32, last: u32) {
 
 fn cycles() {
     out::word(b"cycle after none");
-    out::ends_in_turn(Cycle::none().next());
+    out::ends_in_turn(Cycle::given(0).next());
     after(0);
     after(1);
     after(999998);

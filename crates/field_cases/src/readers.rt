@@ -1,7 +1,7 @@
 // Cases of what is read from a line, and of what is written into one.
 use crate::lists;
 use crate::lists::Task;
-use case_lines::lines;
+use case_lines::lines as made;
 use case_lines::lines::Kind;
 use case_lines::out;
 use layout::field;
@@ -15,7 +15,7 @@ fn shown(what: &[u8], bytes: &[u8]) {
 
 fn of_record() {
     let mut rec = [32u8; 512];
-    lines::fill(Kind::Data, &mut rec);
+    made::fill(Kind::Data, &mut rec);
     shown(b"number", field::number(&rec));
     shown(b"street", field::street(&rec));
     shown(b"place", field::place(&rec));
@@ -27,7 +27,7 @@ fn of_record() {
 
 fn of_row() {
     let mut row = [32u8; 200];
-    lines::fill(Kind::Guide, &mut row);
+    made::fill(Kind::Guide, &mut row);
     let parity = [field::parity(&row)];
     shown(b"parity", &parity);
     shown(b"row street", field::row_street(&row));
@@ -84,10 +84,10 @@ fn same_esn(a: &[u8], b: &[u8]) {
 fn filled() {
     let mut rec = [32u8; 512];
     let mut meant = [32u8; 512];
-    lines::fill(Kind::Data, &mut rec);
-    lines::fill(Kind::Data, &mut meant);
-    lines::set(Kind::Data, &mut rec, table::ESN, b"");
-    lines::set(Kind::Data, &mut meant, table::ESN, b"083");
+    made::fill(Kind::Data, &mut rec);
+    made::fill(Kind::Data, &mut meant);
+    made::set(Kind::Data, &mut rec, table::ESN, b"");
+    made::set(Kind::Data, &mut meant, table::ESN, b"083");
     out::word(b"blank ESN is one");
     out::ends_in_answer(field::has_esn(&rec));
     field::fill_esn(&mut rec, b"083  ");
@@ -101,11 +101,11 @@ fn filled() {
 fn marked() {
     let mut rec = [32u8; 512];
     let mut meant = [32u8; 512];
-    lines::fill(Kind::Data, &mut rec);
-    lines::fill(Kind::Data, &mut meant);
-    lines::set(Kind::Data, &mut rec, table::FUNCTION, b"M");
-    lines::set(Kind::Data, &mut meant, table::FUNCTION, b"I");
-    lines::set(Kind::Data, &mut meant, table::SOURCE, b"C");
+    made::fill(Kind::Data, &mut rec);
+    made::fill(Kind::Data, &mut meant);
+    made::set(Kind::Data, &mut rec, table::FUNCTION, b"M");
+    made::set(Kind::Data, &mut meant, table::FUNCTION, b"I");
+    made::set(Kind::Data, &mut meant, table::SOURCE, b"C");
     field::mark_for_load(&mut rec);
     out::word(b"marked for load, and the rest as it was");
     out::ends_in_answer(text::same(&rec, &meant));

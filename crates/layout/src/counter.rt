@@ -3,6 +3,7 @@
 ghost use mathlib.Core.Path.{_≡_};
 ghost use Rattle.layout.specs.Counters.{cycleOf, givenCycle, nextOf, isNextOf, plainDigits, wholeCount, countOf, isCount};
 ghost use Rattle.text.specs.Text.{leftDigits};
+use crate::place;
 use text::Class;
 use text::Spelled;
 
@@ -22,13 +23,14 @@ pub enum Tally {
     NoCount,
 }
 
+// The last cycle before 1 comes again.
 const LAST: u32 = 999999;
 
 // The cycle of a header's field.
 pub fn cycle_in(f: &[u8]) -> Turn
     ensures { λ r. ⌜ r ≡ cycleOf (now (f .entry)) ⌝ }
 {
-    let Spelled::Number(n) = text::number_in(f, 1, 6) else {
+    let Spelled::Number(n) = text::number_in(f, 1, place::CYCLE_SIZE) else {
         return Turn::NoCycle;
     };
     if n < 1 {
@@ -41,14 +43,7 @@ pub fn cycle_in(f: &[u8]) -> Turn
 }
 
 impl Cycle {
-    // The last cycle where none was taken yet.
-    pub fn none() -> Cycle
-        ensures { λ r. ⌜ r ≡ givenCycle 0 ⌝ }
-    {
-        Cycle(0)
-    }
-
-    // The last cycle that the caller hands in.
+    // The last cycle that the caller hands in; 0 where none was taken yet.
     pub fn given(n: u32) -> Cycle
         ensures { λ r. ⌜ r ≡ givenCycle n ⌝ }
     {
@@ -98,14 +93,14 @@ impl Cycle {
 fn is_plain(d: &[u8]) -> bool
     ensures { λ r. ⌜ r ≡ plainDigits (now (d .entry)) ⌝ }
 {
-    text::all_in(d, Class::Digit) & ((d.len() == 1) | (text::byte_of(d, 0) != 48))
+    text::all_in(d, Class::Digit) & ((d.len() == 1) | (text::byte_of(d, 0) != b'0'))
 }
 
 fn whole_count(d: &[u8]) -> Tally
     ensures { λ r. ⌜ r ≡ wholeCount (now (d .entry)) ⌝ }
 {
     if is_plain(d) {
-        let Spelled::Number(n) = text::number_in(d, 1, 9) else {
+        let Spelled::Number(n) = text::number_in(d, 1, place::COUNT_SIZE) else {
             return Tally::NoCount;
         };
         return Tally::Count(Count(n));

@@ -20,11 +20,14 @@ pub fn number(rec: &[u8]) -> &[u8]
     text::part_of(rec, place::NPA_AT, place::NUMBER_SIZE)
 }
 
+// House Number, Low and High have at most so many digits.
+const MOST_DIGITS: usize = 8;
+
 // A House Number: blank, which counts as 0, or 1 to 8 digits.
 pub fn house_in(f: &[u8]) -> Spelled
     ensures { λ r. ⌜ r ≡ houseIn (now (f .entry)) ⌝ }
 {
-    text::number_in(f, 0, 8)
+    text::number_in(f, 0, MOST_DIGITS)
 }
 
 pub fn house(rec: &[u8]) -> Spelled
@@ -95,7 +98,7 @@ pub fn row_place(row: &[u8]) -> &[u8]
 pub fn end_in(f: &[u8]) -> Spelled
     ensures { λ r. ⌜ r ≡ endIn (now (f .entry)) ⌝ }
 {
-    text::number_in(f, 1, 8)
+    text::number_in(f, 1, MOST_DIGITS)
 }
 
 pub fn low(row: &[u8]) -> Spelled
@@ -121,9 +124,9 @@ pub fn allowed(parity: u8, n: u32) -> bool
     ensures { λ r. ⌜ r ≡ allows parity n ⌝ }
 {
     match parity {
-        79 => n % 2 == 1,
-        69 => n % 2 == 0,
-        66 => true,
+        b'O' => n % 2 == 1,
+        b'E' => n % 2 == 0,
+        b'B' => true,
         _ => false,
     }
 }

@@ -1,7 +1,9 @@
-// Where each field of a record and of a row lies: its first byte, from 0, and how many it has, computed from the tables.
+// Where each field of a line lies: its first byte, from 0, and how many it has, computed from the tables; and how long a line is.
 use crate::table;
+use crate::table::HEADER;
 use crate::table::RECORD;
 use crate::table::ROW;
+use crate::table::TRAILER;
 
 // The data record.
 pub const FUNCTION_AT: usize = RECORD[3 * table::FUNCTION] - 1;
@@ -199,3 +201,31 @@ pub const ROW_STAR_AT: usize = ROW[3 * table::ROW_STAR] - 1;
 pub const ROW_SPAN_SIZE: usize = ROW_POST_AT + ROW_POST_SIZE - ROW_PREFIX_AT;
 
 pub const ROW_PLACE_SIZE: usize = ROW_STATE_AT + ROW_STATE_SIZE - ROW_COMMUNITY_AT;
+
+// Header and trailer. The trailer's letters, date, name and `*` lie where the header's do: `same-frame` of the definitions.
+pub const OPENER_AT: usize = HEADER[3 * table::OPENER] - 1;
+
+pub const FRAME_DATE_AT: usize = HEADER[3 * table::FRAME_DATE] - 1;
+
+pub const FRAME_DATE_SIZE: usize = HEADER[3 * table::FRAME_DATE + 1];
+
+pub const NAME_AT: usize = HEADER[3 * table::NAME] - 1;
+
+pub const NAME_SIZE: usize = HEADER[3 * table::NAME + 1];
+
+pub const CYCLE_AT: usize = HEADER[3 * table::CYCLE] - 1;
+
+pub const CYCLE_SIZE: usize = HEADER[3 * table::CYCLE + 1];
+
+pub const COUNT_AT: usize = TRAILER[3 * table::COUNT] - 1;
+
+pub const COUNT_SIZE: usize = TRAILER[3 * table::COUNT + 1];
+
+pub const FRAME_STAR_AT: usize = HEADER[3 * table::FRAME_STAR] - 1;
+
+// How many bytes a line has: its `*` is the last.
+pub const RECORD_SIZE: usize = RECORD_STAR_AT + 1;
+
+pub const ROW_SIZE: usize = ROW_STAR_AT + 1;
+
+pub const FRAME_SIZE: usize = FRAME_STAR_AT + 1;

@@ -1,20 +1,20 @@
 // The forms of a case: a good line with something changed, and what came of it.
 use crate::lists;
 use crate::lists::Task;
-use case_lines::lines;
+use case_lines::lines as made;
 use case_lines::lines::Kind;
 use case_lines::out;
-use layout::frame;
 use layout::frame::Closed;
 use layout::table::HEADER;
 use layout::table::TRAILER;
+use lines::frame;
 
 const EQUALS: u8 = 61;
 
 // A trailer beside the good header.
 pub fn closed(s: &[u8]) -> Closed {
     let mut header = [32u8; 200];
-    lines::fill(Kind::Head, &mut header);
+    made::fill(Kind::Head, &mut header);
     frame::trailer_in(&TRAILER, &header, s)
 }
 
@@ -30,7 +30,7 @@ fn judge(kind: Kind, s: &[u8]) {
 
 // The same, of a line that is whole.
 pub fn ends(kind: Kind, line: &[u8]) {
-    judge(kind, text::part_of(line, 0, lines::length(kind)));
+    judge(kind, text::part_of(line, 0, made::length(kind)));
 }
 
 fn kind_word(kind: Kind) {
@@ -45,7 +45,7 @@ fn kind_word(kind: Kind) {
 // The good line itself.
 pub fn sample(kind: Kind) {
     let mut line = [32u8; 512];
-    lines::fill(kind, &mut line);
+    made::fill(kind, &mut line);
     kind_word(kind);
     out::word(b"sample");
     ends(kind, &line);
@@ -54,8 +54,8 @@ pub fn sample(kind: Kind) {
 // These bytes for field k.
 pub fn case(kind: Kind, name: &[u8], k: usize, bytes: &[u8]) {
     let mut line = [32u8; 512];
-    lines::fill(kind, &mut line);
-    lines::set(kind, &mut line, k, bytes);
+    made::fill(kind, &mut line);
+    made::set(kind, &mut line, k, bytes);
     kind_word(kind);
     out::field(name, bytes);
     ends(kind, &line);
@@ -64,9 +64,9 @@ pub fn case(kind: Kind, name: &[u8], k: usize, bytes: &[u8]) {
 // These bytes for two fields.
 pub fn two(kind: Kind, name: &[u8], k: usize, bytes: &[u8], other: &[u8], j: usize, more: &[u8]) {
     let mut line = [32u8; 512];
-    lines::fill(kind, &mut line);
-    lines::set(kind, &mut line, k, bytes);
-    lines::set(kind, &mut line, j, more);
+    made::fill(kind, &mut line);
+    made::set(kind, &mut line, k, bytes);
+    made::set(kind, &mut line, j, more);
     kind_word(kind);
     out::field(name, bytes);
     out::word(b", ");
@@ -77,8 +77,8 @@ pub fn two(kind: Kind, name: &[u8], k: usize, bytes: &[u8], other: &[u8], j: usi
 // Byte i of field k, from 1, is b.
 pub fn byte(kind: Kind, name: &[u8], k: usize, i: usize, b: u8) {
     let mut line = [32u8; 512];
-    lines::fill(kind, &mut line);
-    lines::set_byte(kind, &mut line, k, i, b);
+    made::fill(kind, &mut line);
+    made::set_byte(kind, &mut line, k, i, b);
     kind_word(kind);
     out::word(name);
     out::word(b", byte ");
@@ -90,7 +90,7 @@ pub fn byte(kind: Kind, name: &[u8], k: usize, i: usize, b: u8) {
 
 // What any field can be: with a byte that none may hold, its first or its last, blank, and not left-justified.
 fn any(kind: Kind, name: &[u8], k: usize) {
-    let f = lines::field_of(kind, k);
+    let f = made::field_of(kind, k);
     byte(kind, name, k, 1, 127);
     case(kind, name, k, b"");
     if 1 < f.size {
@@ -112,7 +112,7 @@ pub fn field(kind: Kind, k: usize, entry: &[u8]) {
 // The first n bytes of a line.
 pub fn short(kind: Kind, n: usize) {
     let mut line = [32u8; 512];
-    lines::fill(kind, &mut line);
+    made::fill(kind, &mut line);
     kind_word(kind);
     out::word(b"of ");
     out::number(n as u64);

@@ -1,12 +1,12 @@
 // Cases of header and trailer: what a header says, whether a trailer is read, and its count.
 use crate::cases;
 use crate::lists;
-use case_lines::lines;
+use case_lines::lines as made;
 use case_lines::lines::Kind;
 use case_lines::out;
-use layout::frame;
 use layout::table;
 use layout::table::TRAILER;
+use lines::frame;
 
 fn headers() {
     let kind = Kind::Head;
@@ -38,8 +38,8 @@ fn count(n: u32, m: usize) {
     let mut f = [32u8; 9];
     let mut s = [32u8; 200];
     text::put_right(&mut f, n);
-    lines::fill(Kind::Tail, &mut s);
-    lines::set(Kind::Tail, &mut s, table::COUNT, &f);
+    made::fill(Kind::Tail, &mut s);
+    made::set(Kind::Tail, &mut s, table::COUNT, &f);
     out::word(b"trailer ");
     out::field(b"record count", &f);
     out::word(b" is ");
@@ -64,10 +64,10 @@ fn counts() {
 fn both(name: &[u8], k: usize, bytes: &[u8]) {
     let mut header = [32u8; 200];
     let mut trailer = [32u8; 200];
-    lines::fill(Kind::Head, &mut header);
-    lines::set(Kind::Head, &mut header, k, bytes);
-    lines::fill(Kind::Tail, &mut trailer);
-    lines::set(Kind::Tail, &mut trailer, k, bytes);
+    made::fill(Kind::Head, &mut header);
+    made::set(Kind::Head, &mut header, k, bytes);
+    made::fill(Kind::Tail, &mut trailer);
+    made::set(Kind::Tail, &mut trailer, k, bytes);
     out::word(b"header and trailer ");
     out::field(name, bytes);
     out::ends_in_trailer(frame::trailer_in(&TRAILER, &header, &trailer));

@@ -1,7 +1,7 @@
 // Cases as text: a list has a bar between two items, a table of fields a semicolon between two entries.
 use crate::cases;
 use crate::rows;
-use case_lines::lines;
+use case_lines::lines as made;
 use case_lines::lines::BAR;
 use case_lines::lines::Kind;
 
@@ -39,7 +39,7 @@ pub fn each_field(kind: Kind, entries: &[u8]) {
     while i <= entries.len() {
         let e = bytes::scan::find(entries, i, entries.len(), SEMICOLON);
         cases::field(kind, k, &entries[i..e]);
-        k = lines::after(k);
+        k = made::after(k);
         i = e + 1;
     }
 }

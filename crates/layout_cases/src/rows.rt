@@ -2,7 +2,7 @@
 use crate::cases;
 use crate::lists;
 use crate::lists::Task;
-use case_lines::lines;
+use case_lines::lines as made;
 use case_lines::lines::Kind;
 use case_lines::out;
 use layout::table;
@@ -12,10 +12,10 @@ const DASH: u8 = 45;
 // A row of this parity, from Low to High.
 fn row(parity: &[u8], low: &[u8], high: &[u8]) {
     let mut line = [32u8; 512];
-    lines::fill(Kind::Guide, &mut line);
-    lines::set(Kind::Guide, &mut line, table::LOW, low);
-    lines::set(Kind::Guide, &mut line, table::HIGH, high);
-    lines::set(Kind::Guide, &mut line, table::PARITY, parity);
+    made::fill(Kind::Guide, &mut line);
+    made::set(Kind::Guide, &mut line, table::LOW, low);
+    made::set(Kind::Guide, &mut line, table::HIGH, high);
+    made::set(Kind::Guide, &mut line, table::PARITY, parity);
     out::word(b"row ");
     out::word(parity);
     out::field(b" from", low);

@@ -11,22 +11,17 @@ ghost use Rattle.rules.specs.Loads.{isEntry, entriesIn, linesTo, loadFile, load
 use calendar::Day;
 use layout::counter::Cycle;
 use layout::field;
-use layout::frame;
 use layout::frame::Opened;
+use layout::place;
 use layout::table;
+use lines::frame;
 use rules::Found;
 use rules::Loaded;
 use rules::Sought;
-use stores::register;
-use stores::sound;
+use rules::refusing;
 
-const FRAME: usize = 200;
-
-const RECORD: usize = 512;
-
-const DATE_SIZE: usize = 6;
-
-const NAME_SIZE: usize = 50;
+// Header and trailer.
+const FRAMES: usize = 2 * place::FRAME_SIZE;
 
 // An entry whose day is after the load file's date.
 fn is_later(slot: &[u8], day: Day) -> bool
@@ -94,9 +89,9 @@ fn count_entries(register: &[u8]) -> usize
 fn header_for(date: &[u8], company: &[u8], cycle: u32) -> Opened
     ensures { λ r. ⌜ r ≡ loadHeader (now (date .entry)) (now (company .entry)) cycle ⌝ }
 {
-    if (date.len() == DATE_SIZE) & (company.len() == NAME_SIZE) {
+    if (date.len() == place::FRAME_DATE_SIZE) & (company.len() == place::NAME_SIZE) {
         let fields: &[usize] = &table::HEADER;
-        let mut line = [32; FRAME];
+        let mut line = [b' '; place::FRAME_SIZE];
         frame::put_header(&mut line, date, company, Cycle::given(cycle));
         return frame::header_in(fields, &line);
     }
@@ -109,17 +104,17 @@ fn header_refusal(register: &[u8], date: &[u8], company: &[u8], cycle: u32, room
     ensures { λ r. ⌜ r ≡ headerRefusal (now (register .entry)) (now (date .entry)) (now (company .entry)) cycle room ⌝ }
 {
     let Opened::Header(h) = header_for(date, company, cycle) else {
-        return 26;
+        return refusing::LOAD_HEADER;
     };
     let sought = find_later(register, h.day);
     let found = sought.found;
     let Found::At(_) = found else {
-        if FRAME + FRAME + count_entries(register) * RECORD <= room {
-            return 0;
+        if FRAMES + count_entries(register) * place::RECORD_SIZE <= room {
+            return refusing::NONE;
         }
-        return 25;
+        return refusing::OUTPUT_SHORT;
     };
-    26
+    refusing::LOAD_HEADER
 }
 
 // The number of the refusal, or 0.
@@ -129,7 +124,7 @@ fn refusal(register: &[u8], date: &[u8], company: &[u8], cycle: u32, room: usize
     if sound::is_register_sound(register) {
         return header_refusal(register, date, company, cycle, room);
     }
-    1
+    refusing::REGISTER
 }
 
 // One record, as it stands in a load file.
@@ -147,7 +142,7 @@ fn write_entry(slot: &[u8], out: &mut [u8], at: usize) -> usize
     ensures { λ r. ⌜ (r ≡ at + cond (isEntry (now (slot .entry))) 512 0) × (now (out .exit) ≡ take at (now (out .entry)) ++ (cond (isEntry (now (slot .entry))) (forLoad (recordOf (now (slot .entry)))) [] ++ drop r (now (out .entry)))) ⌝ }
 {
     if is_entry(slot) {
-        let end = at + RECORD;
+        let end = at + place::RECORD_SIZE;
         write_line(&mut out[at..end], register::rec(slot));
         return end;
     }
@@ -182,10 +177,15 @@ fn write_file(
     requires { ⌜ (slots (now register) ≤ 4096) × ((entries ≡ entriesIn (now register)) × (loadSize (now register) ≤ length (now out))) ⌝ }
     ensures { λ _. ⌜ now (out .exit) ≡ loadFile (now (register .entry)) (now (date .entry)) (now (company .entry)) cycle ++ drop (loadSize (now (register .entry))) (now (out .entry)) ⌝ }
 {
-    let end = FRAME + entries * RECORD;
-    let all = end + FRAME;
-    frame::put_header(&mut out[0..FRAME], date, company, Cycle::given(cycle));
-    write_lines(register, &mut out[FRAME..end]);
+    let end = place::FRAME_SIZE + entries * place::RECORD_SIZE;
+    let all = end + place::FRAME_SIZE;
+    frame::put_header(
+        &mut out[0..place::FRAME_SIZE],
+        date,
+        company,
+        Cycle::given(cycle),
+    );
+    write_lines(register, &mut out[place::FRAME_SIZE..end]);
     frame::put_trailer(&mut out[end..all], date, company, entries as u32);
 }
 
@@ -200,12 +200,12 @@ pub fn write_load(
     ensures { λ r. ⌜ WritesLoad (now (register .entry)) (now (date .entry)) (now (company .entry)) cycle (now (out .entry)) r (now (out .exit)) ⌝ }
 {
     let refusal = refusal(register, date, company, cycle, out.len());
-    if refusal == 0 {
+    if refusal == refusing::NONE {
         let entries = count_entries(register);
         write_file(register, date, company, cycle, entries, &mut out[..]);
         return Loaded {
-            refusal: 0,
-            bytes: (FRAME + FRAME + entries * RECORD) as u32,
+            refusal: refusing::NONE,
+            bytes: (FRAMES + entries * place::RECORD_SIZE) as u32,
             entries: entries as u32,
         };
     }

@@ -3,17 +3,17 @@ ghost use mathlib.Core.Path.{_≡_};
 ghost use Prim.Native.Nat.{_≤_, _<_};
 ghost use Rattle.rules.specs.Slots.{slots, slotAt, stateOf};
 ghost use Rattle.rules.specs.Lookups.{isNumber, unseen, seenIn, seen, LooksUp};
+use layout::place;
 use rules::Found;
 use rules::Seen;
-use stores::register;
-use stores::sound;
+use rules::refusing;
 use text::Class;
 
 // Ten digits.
 fn is_number(number: &[u8]) -> bool
     ensures { λ r. ⌜ r ≡ isNumber (now (number .entry)) ⌝ }
 {
-    (number.len() == 10) & text::all_in(number, Class::Digit)
+    (number.len() == place::NUMBER_SIZE) & text::all_in(number, Class::Digit)
 }
 
 // A refusal gives 0 for each.
@@ -47,14 +47,14 @@ fn seen_in(register: &[u8], number: &[u8]) -> Seen
     let looked = sought.looked as u32;
     let Found::At(i) = found else {
         return Seen {
-            refusal: 0,
+            refusal: refusing::NONE,
             state: 0,
             slot: 0,
             looked,
         };
     };
     Seen {
-        refusal: 0,
+        refusal: refusing::NONE,
         state: state_at(register, i),
         slot: i as u32,
         looked,
@@ -69,9 +69,9 @@ pub fn look(register: &[u8], number: &[u8]) -> Seen
         if is_number(number) {
             return seen_in(register, number);
         }
-        return unseen(10);
+        return unseen(refusing::NO_NUMBER);
     }
-    unseen(1)
+    unseen(refusing::REGISTER)
 }
 
 // The same, in one number: slots looked at in bits 0 to 15, the slot in 16 to 31, the state in 32 to 35, the refusal in 36 to 39.

@@ -4,7 +4,7 @@ use mathlib.Core.Path.{_≡_, refl, subst}
 use mathlib.Core.Logic.{_≢_}
 use mathlib.Core.Bool.{Bool, true, false, _&&_, cond}
 use mathlib.Core.List.{List}
-use Prim.Native.Nat.{ℕ, _+_, _*_, _-_, _/_, _%_, _<_}
+use Prim.Native.Nat.{ℕ, _+_, _*_, _-_, _/_, _%_, _≤_, _<_}
 use native.Mathlib.Omega.{arith}
 use lib.Dec.{leb, eqb}
 use lib.ListN.{length}
@@ -147,3 +147,16 @@ pub line-long : (k : Kind) (f : List ℕ) (i : ℕ) → goodFile k f ≡ true �
 unfolding lineAt
 line-long Data f i e h = part-length (200 + i * 512) 512 f (omega (arith, file-long Data f e))
 line-long Guide f i e h = part-length (200 + i * 200) 200 f (omega (arith, file-long Guide f e))
+
+-- a file that passes has room for its answers
+pub good-room : (k : Kind) (s : Stores) (f : List ℕ) (room : ℕ) (last : Cycle) (h : Header) → checked k s f room last ≡ Good h → linesIn k f ≤ room
+unfolding checked
+good-room k s f room last h e =
+    leb-true (linesIn k f) room (go (registerSound (s .register)) (guideSound (s .guide)) (goodFile k f) (leb (linesIn k f) room) e)
+  where
+    go : (a b c d : Bool) → cond a (cond b (cond c (cond d (frameChecked k f last) (refuse 4)) (refuse 3)) (refuse 2)) (refuse 1) ≡ Good h → d ≡ true
+    go true true true true g = refl
+    go true true true false g = let z : _≡_ {A = ℕ} 0 1 = cc in absurd (omega arith)
+    go true true false d g = let z : _≡_ {A = ℕ} 0 1 = cc in absurd (omega arith)
+    go true false c d g = let z : _≡_ {A = ℕ} 0 1 = cc in absurd (omega arith)
+    go false b c d g = let z : _≡_ {A = ℕ} 0 1 = cc in absurd (omega arith)

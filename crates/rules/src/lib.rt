@@ -3,6 +3,10 @@
 use calendar::Day;
 use layout::frame::Header;
 
+pub mod answering;
+pub mod refusing;
+pub mod states;
+
 // The kind of a file.
 pub enum Kind {
     Data,

@@ -5,19 +5,21 @@ ghost use Rattle.rules.specs.Rows.{rowCodeOf};
 use calendar::Date;
 use calendar::Day;
 use layout::field;
+use layout::place;
 use rules::Code;
 use rules::Filed;
 use rules::RowCode;
+use rules::states;
 
 fn coded(b: u8, day: Day) -> Filed
     ensures { λ r. ⌜ r ≡ codedOf b day ⌝ }
 {
     match b {
-        73 => Filed::Record(Code::Insert, day),
-        67 => Filed::Record(Code::Change, day),
-        68 => Filed::Record(Code::Delete, day),
-        85 => Filed::Record(Code::Unlock, day),
-        77 => Filed::Record(Code::Migrate, day),
+        b'I' => Filed::Record(Code::Insert, day),
+        b'C' => Filed::Record(Code::Change, day),
+        b'D' => Filed::Record(Code::Delete, day),
+        b'U' => Filed::Record(Code::Unlock, day),
+        b'M' => Filed::Record(Code::Migrate, day),
         _ => Filed::NoRecord,
     }
 }
@@ -26,7 +28,7 @@ fn coded(b: u8, day: Day) -> Filed
 pub fn filed(rec: &[u8]) -> Filed
     ensures { λ r. ⌜ r ≡ filedOf (now (rec .entry)) ⌝ }
 {
-    if rec.len() != 512 {
+    if rec.len() != place::RECORD_SIZE {
         return Filed::NoRecord;
     }
     let Date::Day(day) = field::date(rec) else {
@@ -39,14 +41,14 @@ pub fn filed(rec: &[u8]) -> Filed
 pub fn row_code(row: &[u8]) -> RowCode
     ensures { λ r. ⌜ r ≡ rowCodeOf (now (row .entry)) ⌝ }
 {
-    if row.len() != 200 {
+    if row.len() != place::ROW_SIZE {
         return RowCode::NoCode;
     }
     let b = field::row_function(row);
-    if b == 73 {
+    if b == b'I' {
         return RowCode::Insert;
     }
-    if b == 68 {
+    if b == b'D' {
         return RowCode::Delete;
     }
     RowCode::NoCode
@@ -107,10 +109,10 @@ pub fn state_after(c: Code) -> u8
     ensures { λ r. ⌜ r ≡ stateAfter c ⌝ }
 {
     match c {
-        Code::Insert => 1,
-        Code::Change => 1,
-        Code::Delete => 3,
-        Code::Unlock => 2,
-        Code::Migrate => 1,
+        Code::Insert => states::HELD,
+        Code::Change => states::HELD,
+        Code::Delete => states::RESTING,
+        Code::Unlock => states::OPEN,
+        Code::Migrate => states::HELD,
     }
 }

@@ -15,8 +15,8 @@ use layout::frame::Header;
 use rules::Code;
 use rules::Filed;
 use rules::Found;
-use stores::guide;
-use stores::register;
+use rules::answering;
+use rules::states;
 
 // What is decided of a record: its answer, and where 0 writes and under which row.
 pub struct Decided {
@@ -54,7 +54,7 @@ fn is_foreign(register: &[u8], m: Found, rec: &[u8], c: Code, state: u8) -> bool
     requires { ⌜ below (slots (now register)) m ≡ true ⌝ }
     ensures { λ r. ⌜ r ≡ isOwn c && (isHeld state && otherCompany (now (register .entry)) m (now (rec .entry))) ⌝ }
 {
-    if code::is_own(c) & (state == 1) {
+    if code::is_own(c) & (state == states::HELD) {
         return is_other_company(register, m, rec);
     }
     false
@@ -82,16 +82,16 @@ fn state_answer(c: Code, state: u8) -> u8
     let insert = code::is_insert(c);
     let live = register::is_live(state);
     if insert & live {
-        return 12;
+        return answering::ALREADY_THERE;
     }
     if !insert & !live {
-        return 13;
+        return answering::NOT_THERE;
     }
-    if code::is_migrate(c) & (state == 1) {
-        return 14;
+    if code::is_migrate(c) & (state == states::HELD) {
+        return answering::STILL_HELD;
     }
-    if code::is_own(c) & (state == 2) {
-        return 15;
+    if code::is_own(c) & (state == states::OPEN) {
+        return answering::OPEN;
     }
     0
 }
@@ -102,7 +102,7 @@ fn early_answer(register: &[u8], today: Day, rec: &[u8], c: Code, d: Day, m: Fou
     ensures { λ r. ⌜ r ≡ first (early (now (register .entry)) today (now (rec .entry)) c d m) ⌝ }
 {
     if today.is_before(d) {
-        return 11;
+        return answering::AFTER_HEADER;
     }
     let state = state_in(register, m);
     let answer = state_answer(c, state);
@@ -110,10 +110,10 @@ fn early_answer(register: &[u8], today: Day, rec: &[u8], c: Code, d: Day, m: Fou
         return answer;
     }
     if is_foreign(register, m, rec, c, state) {
-        return 16;
+        return answering::OTHER_COMPANY;
     }
     if is_too_early(register, m, c, d) {
-        return 17;
+        return answering::TOO_EARLY;
     }
     0
 }
@@ -137,10 +137,10 @@ fn under_answer(guide: &[u8], rec: &[u8], k: Found) -> u8
     ensures { λ r. ⌜ r ≡ first (under (now (guide .entry)) (now (rec .entry)) k) ⌝ }
 {
     let Found::At(_) = k else {
-        return 18;
+        return answering::NO_ROW;
     };
     if is_other_esn(guide, k, rec) {
-        return 19;
+        return answering::OTHER_ESN;
     }
     0
 }
@@ -166,19 +166,19 @@ fn settle(register: &[u8], today: Day, m: Found, k: Found) -> Decided
         let p = find_spare(register, today);
         let Found::At(_) = p else {
             return Decided {
-                answer: 20,
+                answer: answering::NO_SLOT,
                 slot: p,
                 row: k,
             };
         };
         return Decided {
-            answer: 0,
+            answer: answering::DONE,
             slot: p,
             row: k,
         };
     };
     Decided {
-        answer: 0,
+        answer: answering::DONE,
         slot: m,
         row: k,
     }
@@ -218,7 +218,7 @@ fn decide(register: &[u8], guide: &[u8], today: Day, rec: &[u8], c: Code, d: Day
         return decide_stored(register, guide, today, rec, m);
     }
     Decided {
-        answer: 0,
+        answer: answering::DONE,
         slot: m,
         row: Found::Nothing,
     }

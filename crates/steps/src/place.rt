@@ -2,8 +2,6 @@
 ghost use mathlib.Core.Path.{_≡_};
 ghost use Prim.Native.Nat.{_<_};
 ghost use Rattle.rules.specs.Slots.{slots, slotAt, rowSlots, rowSlotAt, rowOf};
-use stores::guide;
-use stores::register;
 
 pub fn slot_at(register: &[u8], i: usize) -> &[u8]
     requires { ⌜ i < slots (now register) ⌝ }

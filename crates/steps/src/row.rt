@@ -11,8 +11,7 @@ use crate::place;
 use layout::frame::Header;
 use rules::Found;
 use rules::RowCode;
-use stores::guide;
-use stores::register;
+use rules::answering;
 
 // The slot's part of the guide is lent on to be written.
 fn write_at(guide: &mut [u8], k: usize, row: &[u8])
@@ -42,12 +41,12 @@ fn insert_row(register: &[u8], guide: &mut [u8], row: &[u8]) -> u8
     let clash = guide::find_clash(&guide[..], row);
     let met = clash.found;
     let Found::Nothing = met else {
-        return 21;
+        return answering::CLASH;
     };
     let vacant = guide::find_vacant(&guide[..]);
     let free = vacant.found;
     let Found::At(k) = free else {
-        return 22;
+        return answering::GUIDE_FULL;
     };
     write_at(&mut guide[..], k, row);
     0
@@ -61,12 +60,12 @@ fn delete_row(register: &[u8], guide: &mut [u8], row: &[u8]) -> u8
     let same = guide::find_same(&guide[..], row);
     let place = same.found;
     let Found::At(k) = place else {
-        return 23;
+        return answering::NO_SUCH_ROW;
     };
     let entry = register::find_entry(register, place::row_at(&guide[..], k));
     let used = entry.found;
     let Found::Nothing = used else {
-        return 24;
+        return answering::ROW_IN_USE;
     };
     clear_at(&mut guide[..], k);
     0
@@ -80,6 +79,6 @@ pub fn apply_row(register: &[u8], guide: &mut [u8], header: Header, row: &[u8]) 
     match code::row_code(row) {
         RowCode::Insert => insert_row(register, &mut guide[..], row),
         RowCode::Delete => delete_row(register, &mut guide[..], row),
-        RowCode::NoCode => 23,
+        RowCode::NoCode => answering::NO_SUCH_ROW,
     }
 }

@@ -99,18 +99,6 @@ good-lines k f e =
     (and-right (eqb ((length f - 400) % lineSize k) 0) (leb (linesIn k f) 9999)
     (and-right (leb 400 (length f)) (eqb ((length f - 400) % lineSize k) 0 && leb (linesIn k f) 9999) e))
 
-pub good-room : (k : Kind) (s : Stores) (f : List ℕ) (room : ℕ) (last : Cycle) (h : Header) → checked k s f room last ≡ Good h → linesIn k f ≤ room
-unfolding checked
-good-room k s f room last h e =
-    leb-true (linesIn k f) room (go (registerSound (s .register)) (guideSound (s .guide)) (goodFile k f) (leb (linesIn k f) room) e)
-  where
-    go : (a b c d : Bool) → cond a (cond b (cond c (cond d (frameChecked k f last) (refuse 4)) (refuse 3)) (refuse 2)) (refuse 1) ≡ Good h → d ≡ true
-    go true true true true g = refl
-    go true true true false g = let z : _≡_ {A = ℕ} 0 1 = cc in absurd (omega arith)
-    go true true false d g = let z : _≡_ {A = ℕ} 0 1 = cc in absurd (omega arith)
-    go true false c d g = let z : _≡_ {A = ℕ} 0 1 = cc in absurd (omega arith)
-    go false b c d g = let z : _≡_ {A = ℕ} 0 1 = cc in absurd (omega arith)
-
 -- what is returned of an applied file
 pub applied-is : (k : Kind) (h : Header) (s : Stores) (f answers : List ℕ) (n done : ℕ) → n ≡ linesIn k f → done ≡ zerosIn (answersTo k h f s n)
     → record { refusal = 0; place = 0; position = 0; records = n; done = done; undone = n - done; last = h .cycle .0 }

@@ -15,15 +15,15 @@ use steps::row;
 pub fn apply_records(
     register: &mut [u8],
     guide: &[u8],
-    lines: &[u8],
+    file: &[u8],
     answers: &mut [u8],
     h: Header,
     n: usize,
 ) -> u32
     requires { ⌜ (n ≤ 9999) × (n ≤ length (now answers)) ⌝ }
-    ensures { λ r. ⌜ (r ≤ n) × ((r ≡ zerosIn (answersTo Data h (now (lines .entry)) (record { register = now (register .entry); guide = now (guide .entry) }) n))
-        × ((now (register .exit) ≡ after Data h (now (lines .entry)) (record { register = now (register .entry); guide = now (guide .entry) }) n .register)
-        × (now (answers .exit) ≡ answersTo Data h (now (lines .entry)) (record { register = now (register .entry); guide = now (guide .entry) }) n ++ drop n (now (answers .entry))))) ⌝ }
+    ensures { λ r. ⌜ (r ≤ n) × ((r ≡ zerosIn (answersTo Data h (now (file .entry)) (record { register = now (register .entry); guide = now (guide .entry) }) n))
+        × ((now (register .exit) ≡ after Data h (now (file .entry)) (record { register = now (register .entry); guide = now (guide .entry) }) n .register)
+        × (now (answers .exit) ≡ answersTo Data h (now (file .entry)) (record { register = now (register .entry); guide = now (guide .entry) }) n ++ drop n (now (answers .entry))))) ⌝ }
 {
     let mut done: u32 = 0;
     let mut i: usize = 0;
@@ -32,7 +32,7 @@ pub fn apply_records(
             &mut register[..],
             guide,
             h,
-            checks::line_at(Kind::Data, lines, i),
+            checks::line_at(Kind::Data, file, i),
         );
         answers[i] = answer; // a record that is turned away changes this byte alone
         if answer == 0 {
@@ -47,15 +47,15 @@ pub fn apply_records(
 pub fn apply_rows(
     register: &[u8],
     guide: &mut [u8],
-    lines: &[u8],
+    file: &[u8],
     answers: &mut [u8],
     h: Header,
     n: usize,
 ) -> u32
     requires { ⌜ (n ≤ 9999) × (n ≤ length (now answers)) ⌝ }
-    ensures { λ r. ⌜ (r ≤ n) × ((r ≡ zerosIn (answersTo Guide h (now (lines .entry)) (record { register = now (register .entry); guide = now (guide .entry) }) n))
-        × ((now (guide .exit) ≡ after Guide h (now (lines .entry)) (record { register = now (register .entry); guide = now (guide .entry) }) n .guide)
-        × (now (answers .exit) ≡ answersTo Guide h (now (lines .entry)) (record { register = now (register .entry); guide = now (guide .entry) }) n ++ drop n (now (answers .entry))))) ⌝ }
+    ensures { λ r. ⌜ (r ≤ n) × ((r ≡ zerosIn (answersTo Guide h (now (file .entry)) (record { register = now (register .entry); guide = now (guide .entry) }) n))
+        × ((now (guide .exit) ≡ after Guide h (now (file .entry)) (record { register = now (register .entry); guide = now (guide .entry) }) n .guide)
+        × (now (answers .exit) ≡ answersTo Guide h (now (file .entry)) (record { register = now (register .entry); guide = now (guide .entry) }) n ++ drop n (now (answers .entry))))) ⌝ }
 {
     let mut done: u32 = 0;
     let mut i: usize = 0;
@@ -64,7 +64,7 @@ pub fn apply_rows(
             register,
             &mut guide[..],
             h,
-            checks::line_at(Kind::Guide, lines, i),
+            checks::line_at(Kind::Guide, file, i),
         );
         answers[i] = answer;
         if answer == 0 {

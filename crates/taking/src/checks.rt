@@ -3,34 +3,33 @@ ghost use mathlib.Core.Path.{_≡_};
 ghost use Prim.Native.Nat.{_≤_};
 ghost use Rattle.rules.specs.Takes.{lineFault, linesIn, goodFile, headerLine, trailerLine, lineAt, refuse, linesChecked, trailerChecked, frameChecked, checked};
 use layout::counter::Cycle;
-use layout::frame;
 use layout::frame::Closed;
 use layout::frame::Header;
 use layout::frame::Opened;
+use layout::place;
 use layout::table;
+use lines::frame;
 use rules::Checked;
 use rules::Kind;
 use rules::Refusal;
-use stores::sound;
+use rules::refusing;
 
-const FRAME: usize = 200;
+// Header and trailer of a file.
+const FRAMES: usize = 2 * place::FRAME_SIZE;
 
-const RECORD: usize = 512;
-
-const ROW: usize = 200;
-
+// A file has at most so many lines.
 const MOST: usize = 9999;
 
 // How many lines stand between header and trailer.
 pub fn lines_in(kind: Kind, file: &[u8]) -> usize
     ensures { λ r. ⌜ r ≡ linesIn kind (now (file .entry)) ⌝ }
 {
-    if file.len() < FRAME + FRAME {
+    if file.len() < FRAMES {
         return 0;
     }
     match kind {
-        Kind::Data => (file.len() - (FRAME + FRAME)) / RECORD,
-        Kind::Guide => (file.len() - (FRAME + FRAME)) / ROW,
+        Kind::Data => (file.len() - FRAMES) / place::RECORD_SIZE,
+        Kind::Guide => (file.len() - FRAMES) / place::ROW_SIZE,
     }
 }
 
@@ -40,8 +39,16 @@ pub fn line_at(kind: Kind, file: &[u8], i: usize) -> &[u8]
     ensures { λ r. ⌜ now r ≡ lineAt kind (now (file .entry)) i ⌝ }
 {
     match kind {
-        Kind::Data => text::part_of(file, FRAME + i * RECORD, RECORD),
-        Kind::Guide => text::part_of(file, FRAME + i * ROW, ROW),
+        Kind::Data => text::part_of(
+            file,
+            place::FRAME_SIZE + i * place::RECORD_SIZE,
+            place::RECORD_SIZE,
+        ),
+        Kind::Guide => text::part_of(
+            file,
+            place::FRAME_SIZE + i * place::ROW_SIZE,
+            place::ROW_SIZE,
+        ),
     }
 }
 
@@ -59,13 +66,13 @@ fn refused(number: u32) -> Checked
 fn is_good_file(kind: Kind, file: &[u8]) -> bool
     ensures { λ r. ⌜ r ≡ goodFile kind (now (file .entry)) ⌝ }
 {
-    if file.len() < FRAME + FRAME {
+    if file.len() < FRAMES {
         return false;
     }
     let few = lines_in(kind, file) <= MOST;
     match kind {
-        Kind::Data => ((file.len() - (FRAME + FRAME)) % RECORD == 0) & few,
-        Kind::Guide => ((file.len() - (FRAME + FRAME)) % ROW == 0) & few,
+        Kind::Data => ((file.len() - FRAMES) % place::RECORD_SIZE == 0) & few,
+        Kind::Guide => ((file.len() - FRAMES) % place::ROW_SIZE == 0) & few,
     }
 }
 
@@ -89,7 +96,7 @@ fn check_lines(kind: Kind, file: &[u8], n: usize, h: Header) -> Checked
         let fault = line_fault(kind, line_at(kind, file, i));
         if fault != 0 {
             return Checked::Refused(Refusal {
-                number: 9,
+                number: refusing::FIELD_RULE,
                 place: (i + 1) as u32,
                 position: fault as u32,
             });
@@ -102,16 +109,16 @@ fn check_lines(kind: Kind, file: &[u8], n: usize, h: Header) -> Checked
 fn header_line(file: &[u8]) -> &[u8]
     ensures { λ r. ⌜ now r ≡ headerLine (now (file .entry)) ⌝ }
 {
-    text::part_of(file, 0, FRAME)
+    text::part_of(file, 0, place::FRAME_SIZE)
 }
 
 fn trailer_line(file: &[u8]) -> &[u8]
     ensures { λ r. ⌜ now r ≡ trailerLine (now (file .entry)) ⌝ }
 {
-    if file.len() < FRAME {
-        return text::part_of(file, 0, FRAME);
+    if file.len() < place::FRAME_SIZE {
+        return text::part_of(file, 0, place::FRAME_SIZE);
     }
-    text::part_of(file, file.len() - FRAME, FRAME)
+    text::part_of(file, file.len() - place::FRAME_SIZE, place::FRAME_SIZE)
 }
 
 // 7 and 8: the trailer, and then the lines.
@@ -122,13 +129,13 @@ fn check_trailer(kind: Kind, file: &[u8], h: Header) -> Checked
     let fields: &[usize] = &table::TRAILER;
     let Closed::Trailer(count) = frame::trailer_in(fields, header_line(file), trailer_line(file))
     else {
-        return refused(7);
+        return refused(refusing::TRAILER);
     };
     let n = lines_in(kind, file);
     if count.is(n) {
         return check_lines(kind, file, n, h);
     }
-    refused(8)
+    refused(refusing::COUNT)
 }
 
 // 5 and 6: the header and its cycle, and then the trailer.
@@ -138,13 +145,13 @@ fn check_frame(kind: Kind, file: &[u8], last: Cycle) -> Checked
 {
     let fields: &[usize] = &table::HEADER;
     let Opened::Header(h) = frame::header_in(fields, header_line(file)) else {
-        return refused(5);
+        return refused(refusing::HEADER);
     };
     let cycle = h.cycle;
     if last.is_next(cycle) {
         return check_trailer(kind, file, h);
     }
-    refused(6)
+    refused(refusing::CYCLE)
 }
 
 // 1 to 4: the stores, the file's length and the room for answers; and then the frame.
@@ -164,11 +171,11 @@ pub fn check_file(
                 if lines_in(kind, file) <= room {
                     return check_frame(kind, file, last);
                 }
-                return refused(4);
+                return refused(refusing::ANSWERS_SHORT);
             }
-            return refused(3);
+            return refused(refusing::FILE_LENGTH);
         }
-        return refused(2);
+        return refused(refusing::GUIDE);
     }
-    refused(1)
+    refused(refusing::REGISTER)
 }

@@ -10,6 +10,7 @@ use rules::Checked;
 use rules::Kind;
 use rules::Refusal;
 use rules::Taken;
+use rules::refusing;
 
 // What a refused file returns.
 fn refused(r: Refusal, last: u32) -> Taken
@@ -34,7 +35,7 @@ fn applied(h: Header, n: usize, done: u32) -> Taken
     let cycle = h.cycle;
     let records = n as u32;
     Taken {
-        refusal: 0,
+        refusal: refusing::NONE,
         place: 0,
         position: 0,
         records,

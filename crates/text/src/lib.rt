@@ -20,11 +20,11 @@ pub fn in_class(k: Class, b: u8) -> bool
     ensures { λ r. ⌜ r ≡ inClass k b ⌝ }
 {
     match k {
-        Class::Printable => (32 <= b) & (b <= 126),
-        Class::Space => b == 32,
-        Class::Digit => (48 <= b) & (b <= 57),
-        Class::Capital => (65 <= b) & (b <= 90),
-        Class::CapitalOrDigit => ((48 <= b) & (b <= 57)) | ((65 <= b) & (b <= 90)),
+        Class::Printable => (b' ' <= b) & (b <= b'~'),
+        Class::Space => b == b' ',
+        Class::Digit => (b'0' <= b) & (b <= b'9'),
+        Class::Capital => (b'A' <= b) & (b <= b'Z'),
+        Class::CapitalOrDigit => ((b'0' <= b) & (b <= b'9')) | ((b'A' <= b) & (b <= b'Z')),
     }
 }
 
@@ -82,11 +82,14 @@ pub fn wide(b: u8) -> u32
     b as u32
 }
 
+// Four spaces, as one word.
+const FOUR_SPACES: u32 = 0x20202020;
+
 // Whether four bytes are spaces. They are put together, so that they are compared as one word.
 pub fn are_spaces(a: u8, b: u8, c: u8, d: u8) -> bool
     ensures { λ r. ⌜ r ≡ blank (a ∷ (b ∷ (c ∷ (d ∷ [])))) ⌝ }
 {
-    wide(a) + wide(b) * 256 + wide(c) * 65536 + wide(d) * 16777216 == 538976288
+    wide(a) + wide(b) * 256 + wide(c) * 65536 + wide(d) * 16777216 == FOUR_SPACES
 }
 
 // How many bytes of the class it begins with.
@@ -128,9 +131,9 @@ pub fn runs(f: &[u8], k: Class, low: usize, high: usize) -> bool
 fn digit(b: u8) -> u32
     ensures { λ r. ⌜ (r ≡ digitOf b) × (r < 10) ⌝ }
 {
-    if 48 <= b {
-        if b <= 57 {
-            return (b - 48) as u32;
+    if b'0' <= b {
+        if b <= b'9' {
+            return (b - b'0') as u32;
         }
     }
     0
@@ -155,11 +158,14 @@ pub enum Spelled {
     NoNumber,
 }
 
-// The number that from low to high digits spell, with only spaces behind them. No field has more than nine digits.
+// No field has more digits, and so many fit 32 bits.
+const MOST_DIGITS: usize = 9;
+
+// The number that from low to high digits spell, with only spaces behind them.
 pub fn number_in(f: &[u8], low: usize, high: usize) -> Spelled
     ensures { λ r. ⌜ r ≡ spelled low high (now (f .entry)) ⌝ }
 {
-    if 9 < high {
+    if MOST_DIGITS < high {
         return Spelled::NoNumber;
     }
     let n = run(f, Class::Digit);
@@ -328,6 +334,9 @@ pub fn fill(s: &mut [u8], b: u8)
     }
 }
 
+// The digit 0, as a number to which a digit's value is added.
+const ZERO: u32 = b'0' as u32;
+
 // The last digits of n, as many as there are bytes.
 fn put_digits(s: &mut [u8], n: u32)
     ensures { λ _. ⌜ now (s .exit) ≡ digits (length (now (s .entry))) n ⌝ }
@@ -336,7 +345,7 @@ fn put_digits(s: &mut [u8], n: u32)
     let mut i = s.len();
     while 0 < i {
         i -= 1;
-        s[i] = (48 + m % 10) as u8;
+        s[i] = (ZERO + m % 10) as u8;
         m = m / 10;
     }
 }
@@ -360,7 +369,7 @@ fn put_among_spaces(s: &mut [u8], a: usize, w: usize, n: u32)
     ensures { λ _. ⌜ now (s .exit) ≡ amongSpaces a w n (length (now (s .entry))) ⌝ }
 {
     let e = a + w;
-    fill(&mut s[..], 32);
+    fill(&mut s[..], b' ');
     put_digits(&mut s[a..e], n);
 }
 

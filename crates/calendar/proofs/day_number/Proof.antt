@@ -49,7 +49,13 @@ sub-result-3 : tie.Need-sub-result-3
 sub-result-3 c = search needs
 
 returns-2 : tie.Need-returns-2
-returns-2 c = (simp (lt-leb _ _ (c .before .before .if1 .left), sym (c .before .is-leap .ensures) ∙ c .if2 .taken) (omega arith), omega (arith, eqb-true (c .before .before .before .args .y % 4) 0 (sym (c .before .is-leap .ensures) ∙ c .if2 .taken)))
+returns-2 c =
+    let is-leap = c .before .is-leap in
+    let if1 = c .before .before .if1 in
+    let y = c .before .before .before .args .y in (
+      simp (lt-leb _ _ (if1 .left), sym (is-leap .ensures) ∙ c .if2 .taken) (omega arith),
+      omega (arith, eqb-true (y % 4) 0 (sym (is-leap .ensures) ∙ c .if2 .taken)),
+    )
 
 add-result-5 : tie.Need-add-result-5
 add-result-5 c = search needs
@@ -64,7 +70,9 @@ sub-result-5 : tie.Need-sub-result-5
 sub-result-5 c = search needs
 
 returns-3 : tie.Need-returns-3
-returns-3 c = (simp (lt-leb _ _ (c .before .before .if1 .left), sym (c .before .is-leap .ensures) ∙ c .if2 .left) (omega arith), omega arith)
+returns-3 c =
+    let if1 = c .before .before .if1 in
+    (simp (lt-leb _ _ (if1 .left), sym (c .before .is-leap .ensures) ∙ c .if2 .left) (omega arith), omega arith)
 
 pub day-number-spec : {M : Type 1} → statement M
 day-number-spec =

@@ -3,7 +3,7 @@ use Prim.Native.Nat.{_-_, _≤_}
 use native.Mathlib.Omega.{arith}
 use lib.ListN.{drop, length}
 use borrow.Author.Needs.{needs}
-use Rattle.desk_lines.specs.Served.{benchOf}
+use Rattle.desk_rules.specs.Served.{benchOf}
 use Rattle.desk.specs.Standing.{standing}
 use Rattle.desk.proofs.Stands.{stands-more, stands-all}
 use Rattle.desk.proofs.feed_all.Tie as tie
@@ -37,13 +37,43 @@ write-requires : tie.Need-write-requires Inv-loop μ-loop
 write-requires c κs = search needs
 
 add-i : tie.Need-add-i Inv-loop μ-loop
-add-i c = omega (arith, c .before .before .before .before .before .before .before .before .before .before .before .before .before .before .before .before .before .before .before .before .loop-test .taken, c .before .before .before .before .before .before .before .before .before .before .before .before .before .before .before .before .before .before .before .before .before .before .before .before .before .before .before .before .good)
+add-i c =
+    let at-loop-test = c .before .before .before .before .before .before .before .before .before .before .before .before .before .before
+    .before .before .before .before .before .before in
+    let good = at-loop-test .before .before .before .before .before .before .before .before .good in
+    omega (arith, at-loop-test .loop-test .taken, good)
 
 loop-less : tie.Need-loop-less Inv-loop μ-loop
 loop-less c = search needs
 
 loop-again : tie.Need-loop-again Inv-loop μ-loop
-loop-again c = (search needs, (search needs, (search needs, (search needs, (search needs, (search needs, stands-more (c .before .before .before .before .before .before .before .before .before .before .before .before .before .before .before .before .before .before .before .before .before .loop .marks) (benchOf (c .before .before .before .before .before .before .before .before .before .before .before .before .before .before .before .before .before .before .before .before .before .loop .register) (c .before .before .before .before .before .before .before .before .before .before .before .before .before .before .before .before .before .before .before .before .before .loop .guide) (c .before .before .before .before .before .before .before .before .before .before .before .before .before .before .before .before .before .before .before .before .before .loop .collection) (c .before .before .before .before .before .before .before .before .before .before .before .before .before .before .before .before .before .before .before .before .before .loop .line) (c .before .before .before .before .before .before .before .before .before .before .before .before .before .before .before .before .before .before .before .before .before .loop .out)) (c .before .before .before .before .before .before .before .before .before .before .before .before .before .before .before .before .before .before .before .before .before .before .before .before .before .before .before .before .args .input .now) (c .before .before .before .before .before .before .before .before .before .before .before .before .before .before .before .before .before .before .before .before .before .loop .i) (c .before .before .before .before .before .before .before .before .before .before .before .before .before .before .before .before .before .before .before .before .before .loop .inv .1 .1 .1 .1 .1 .1) (c .before .before .before .before .before .before .before .before .before .before .before .before .before .feed .result) _ (c .before .before .before .before .before .before .before .before .before .before .before .before .before .before .before .before .before .before .before .before .loop-test .taken) (c .before .before .before .before .before .before .before .before .before .before .before .before .before .feed .ensures)))))))
+loop-again c =
+    let feed = c .before .before .before .before .before .before .before .before .before .before .before .before .before .feed in
+    let loop-test = c .before .before .before .before .before .before .before .before .before .before .before .before .before .before
+    .before .before .before .before .before .before .loop-test in
+    let loop = c .before .before .before .before .before .before .before .before .before .before .before .before .before .before .before
+    .before .before .before .before .before .before .loop in
+    let input = c .before .before .before .before .before .before .before .before .before .before .before .before .before .before .before
+    .before .before .before .before .before .before .before .before .before .before .before .before .before .args .input .now in (
+      search needs,
+      (
+        search needs,
+        (
+          search needs,
+          (
+            search needs,
+            (
+              search needs,
+              (
+                search needs,
+                stands-more (loop .marks) (benchOf (loop .register) (loop .guide) (loop .collection) (loop .line) (loop .out)) input
+                    (loop .i) (loop .inv .1 .1 .1 .1 .1 .1) (feed .result) _ (loop-test .taken) (feed .ensures),
+              ),
+            ),
+          ),
+        ),
+      ),
+    )
 
 same-length : tie.Need-same-length Inv-loop μ-loop
 same-length c = search needs
@@ -61,7 +91,12 @@ same-length-5 : tie.Need-same-length-5 Inv-loop μ-loop
 same-length-5 c = search needs
 
 returns : tie.Need-returns Inv-loop μ-loop
-returns c = stands-all (c .before .loop .marks) (benchOf (c .before .loop .register) (c .before .loop .guide) (c .before .loop .collection) (c .before .loop .line) (c .before .loop .out)) (c .before .before .before .before .before .before .before .before .args .input .now) (c .before .loop .i) (c .before .loop .inv .1 .1 .1 .1 .1 .1) (c .loop-test .left)
+returns c =
+    let at-loop = c .before in
+    let input = at-loop .before .before .before .before .before .before .before .args .input .now in
+    stands-all (at-loop .loop .marks)
+    (benchOf (at-loop .loop .register) (at-loop .loop .guide) (at-loop .loop .collection) (at-loop .loop .line) (at-loop .loop .out)) input
+    (at-loop .loop .i) (at-loop .loop .inv .1 .1 .1 .1 .1 .1) (c .loop-test .left)
 
 pub feed-all-spec : {M : Type 1} → statement M
 feed-all-spec =

@@ -29,10 +29,22 @@ feed-some-requires : tie.Need-feed-some-requires Inv-loop μ-loop
 feed-some-requires c κs = search needs
 
 sub-turns : tie.Need-sub-turns Inv-loop μ-loop
-sub-turns c = let h = ltb-true 0 (c .before .before .before .before .before .before .before .before .before .before .before .before .before .before .before .before .before .before .loop .turns) (and-right (c .before .before .before .before .before .before .before .before .before .before .before .before .before .before .before .before .before .before .loop .more) (ltb 0 (c .before .before .before .before .before .before .before .before .before .before .before .before .before .before .before .before .before .before .loop .turns)) (c .before .before .before .before .before .before .before .before .before .before .before .before .before .before .before .before .before .loop-test .taken)) in omega arith
+sub-turns c =
+    let at-loop-test = c .before .before .before .before .before .before .before .before .before .before .before .before .before .before
+    .before .before .before in
+    let at-loop = at-loop-test .before in
+    let h = ltb-true 0 (at-loop .loop .turns)
+    (and-right (at-loop .loop .more) (ltb 0 (at-loop .loop .turns)) (at-loop-test .loop-test .taken)) in
+    omega arith
 
 loop-less : tie.Need-loop-less Inv-loop μ-loop
-loop-less c = let h = ltb-true 0 (c .before .before .before .before .before .before .before .before .before .before .before .before .before .before .before .before .before .before .loop .turns) (and-right (c .before .before .before .before .before .before .before .before .before .before .before .before .before .before .before .before .before .before .loop .more) (ltb 0 (c .before .before .before .before .before .before .before .before .before .before .before .before .before .before .before .before .before .before .loop .turns)) (c .before .before .before .before .before .before .before .before .before .before .before .before .before .before .before .before .before .loop-test .taken)) in omega arith
+loop-less c =
+    let at-loop-test = c .before .before .before .before .before .before .before .before .before .before .before .before .before .before
+    .before .before .before in
+    let at-loop = at-loop-test .before in
+    let h = ltb-true 0 (at-loop .loop .turns)
+    (and-right (at-loop .loop .more) (ltb 0 (at-loop .loop .turns)) (at-loop-test .loop-test .taken)) in
+    omega arith
 
 loop-again : tie.Need-loop-again Inv-loop μ-loop
 loop-again c = search needs

@@ -18,14 +18,23 @@ is-good-record-requires c κs = search needs
 
 returns : tie.Need-returns
 unfolding recordFault
-returns c = rw (← c .before .before .before .before .before .function .ensures, ← c .before .before .before .before .is-lax-code .ensures) (sym (c .before .is-good-record .ensures (c .if2 .taken) (sym (c .before .before .before .all-in .ensures) ∙ c .before .before .if1 .taken)))
+returns c =
+    let at-if1 = c .before .before in
+    let all-in = at-if1 .before .all-in in
+    let is-lax-code = at-if1 .before .before .is-lax-code in
+    let function = at-if1 .before .before .before .function in
+    rw (← function .ensures, ← is-lax-code .ensures)
+    (sym (c .before .is-good-record .ensures (c .if2 .taken) (sym (all-in .ensures) ∙ at-if1 .if1 .taken)))
 
 seek-record-fault-requires : tie.Need-seek-record-fault-requires
 seek-record-fault-requires c κs = search needs
 
 returns-2 : tie.Need-returns-2
 unfolding recordFault
-returns-2 c = rw (← c .before .before .before .before .function .ensures, ← c .before .before .before .is-lax-code .ensures) (c .seek-record-fault .ensures)
+returns-2 c =
+    let is-lax-code = c .before .before .before .is-lax-code in
+    let function = c .before .before .before .before .function in
+    rw (← function .ensures, ← is-lax-code .ensures) (c .seek-record-fault .ensures)
 
 pub record-fault-spec : {M : Type 1} → statement M
 record-fault-spec =

@@ -12,7 +12,10 @@ is-good-row-requires c κs = search needs
 
 returns : tie.Need-returns
 unfolding rowFault
-returns c = sym (c .before .is-good-row .ensures (c .if2 .taken) (sym (c .before .before .before .all-in .ensures) ∙ c .before .before .if1 .taken))
+returns c =
+    let if1 = c .before .before .if1 in
+    let all-in = c .before .before .before .all-in in
+    sym (c .before .is-good-row .ensures (c .if2 .taken) (sym (all-in .ensures) ∙ if1 .taken))
 
 seek-row-fault-requires : tie.Need-seek-row-fault-requires
 seek-row-fault-requires c κs = search needs

@@ -43,7 +43,9 @@ one-if-requires : tie.Need-one-if-requires Inv-loop μ-loop
 one-if-requires c κs = search needs
 
 add-entries : tie.Need-add-entries Inv-loop μ-loop
-add-entries c = omega (arith, c .before .before .before .before .loop .inv .few, c .before .before .before .before .loop .inv .within, at-most-one (c .before .is-entry .result), c .one-if .ensures)
+add-entries c =
+    let at-loop = c .before .before .before .before in
+    omega (arith, at-loop .loop .inv .few, at-loop .loop .inv .within, at-most-one (c .before .is-entry .result), c .one-if .ensures)
 
 add-i : tie.Need-add-i Inv-loop μ-loop
 add-i c = search needs
@@ -53,11 +55,21 @@ loop-less c = search needs
 
 loop-again : tie.Need-loop-again Inv-loop μ-loop
 unfolding entryAt
-loop-again c = counted-more (entryAt (c .before .before .before .before .before .before .args .register .now)) _ _ _ _ _ (c .before .before .before .before .loop .inv) (c .before .before .before .loop-test .taken) (c .before .is-entry .ensures ∙ ap (λ (s : List ℕ). isEntry s) (place-part 520 (c .before .before .before .before .before .before .args .register .now) (c .before .before .before .before .loop .i))) (c .one-if .ensures)
+loop-again c =
+    let loop-test = c .before .before .before .loop-test in
+    let at-loop = c .before .before .before .before in
+    let register = at-loop .before .before .args .register .now in
+    counted-more (entryAt register) _ _ _ _ _ (at-loop .loop .inv) (loop-test .taken)
+    (c .before .is-entry .ensures ∙ ap (λ (s : List ℕ). isEntry s) (place-part 520 register (at-loop .loop .i))) (c .one-if .ensures)
 
 returns : tie.Need-returns Inv-loop μ-loop
 unfolding entriesIn
-returns c = let z : c .before .loop .i ≡ length (c .before .before .before .args .register .now) / 520 = omega (arith, c .before .loop .inv .within) in (rw (← z) (c .before .loop .inv .counted), omega (arith, c .before .loop .inv .few, c .before .loop .inv .within))
+returns c =
+    let at-loop = c .before in
+    let inv = at-loop .loop .inv in
+    let register = at-loop .before .before .args .register .now in
+    let z : at-loop .loop .i ≡ length register / 520 = omega (arith, inv .within) in
+    (rw (← z) (inv .counted), omega (arith, inv .few, inv .within))
 
 pub count-entries-spec : {M : Type 1} → statement M
 count-entries-spec =

@@ -40,7 +40,14 @@ add-t15 c = search needs
 
 returns : tie.Need-returns Inv-loop μ-loop
 unfolding laterAt
-returns c = passed-hit (laterAt (c .before .before .before .before .before .before .args .day) (c .before .before .before .before .before .before .args .register .now)) (length (c .before .before .before .before .before .before .args .register .now) / 520) (c .before .before .before .before .loop .i) (c .before .before .before .before .loop .inv) (c .before .before .before .loop-test .taken) (place-test 520 (isLaterEntry (c .before .before .before .before .before .before .args .day)) (c .before .before .before .before .before .before .args .register .now) (c .before .before .before .before .loop .i) (c .before .is-later .ensures) (c .if1 .taken))
+returns c =
+    let loop-test = c .before .before .before .loop-test in
+    let at-loop = c .before .before .before .before in
+    let at-start = at-loop .before .before .args in
+    let day = at-start .day in
+    let register = at-start .register .now in
+    passed-hit (laterAt day register) (length register / 520) (at-loop .loop .i) (at-loop .loop .inv) (loop-test .taken)
+    (place-test 520 (isLaterEntry day) register (at-loop .loop .i) (c .before .is-later .ensures) (c .if1 .taken))
 
 add-i : tie.Need-add-i Inv-loop μ-loop
 add-i c = search needs
@@ -50,10 +57,21 @@ loop-less c = search needs
 
 loop-again : tie.Need-loop-again Inv-loop μ-loop
 unfolding laterAt
-loop-again c = passed-more (laterAt (c .before .before .before .before .before .before .args .day) (c .before .before .before .before .before .before .args .register .now)) (length (c .before .before .before .before .before .before .args .register .now) / 520) (c .before .before .before .before .loop .i) (c .before .before .before .before .loop .inv) (c .before .before .before .loop-test .taken) (place-test 520 (isLaterEntry (c .before .before .before .before .before .before .args .day)) (c .before .before .before .before .before .before .args .register .now) (c .before .before .before .before .loop .i) (c .before .is-later .ensures) (c .if1 .left))
+loop-again c =
+    let loop-test = c .before .before .before .loop-test in
+    let at-loop = c .before .before .before .before in
+    let at-start = at-loop .before .before .args in
+    let day = at-start .day in
+    let register = at-start .register .now in
+    passed-more (laterAt day register) (length register / 520) (at-loop .loop .i) (at-loop .loop .inv) (loop-test .taken)
+    (place-test 520 (isLaterEntry day) register (at-loop .loop .i) (c .before .is-later .ensures) (c .if1 .left))
 
 returns-2 : tie.Need-returns-2 Inv-loop μ-loop
-returns-2 c = passed-all (laterAt (c .before .before .before .args .day) (c .before .before .before .args .register .now)) (length (c .before .before .before .args .register .now) / 520) (c .before .loop .i) (c .before .loop .inv) (c .loop-test .left)
+returns-2 c =
+    let at-loop = c .before in
+    let at-start = at-loop .before .before .args in
+    let register = at-start .register .now in
+    passed-all (laterAt (at-start .day) register) (length register / 520) (at-loop .loop .i) (at-loop .loop .inv) (c .loop-test .left)
 
 pub find-later-spec : {M : Type 1} → statement M
 find-later-spec =

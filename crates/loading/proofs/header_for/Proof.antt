@@ -30,7 +30,16 @@ header-in-requires c κs = search needs
 
 returns : tie.Need-returns
 unfolding loadHeader headerFor
-returns c = rw (c .before .before .before .before .before .before .before .if1 .taken) (c .header-in .ensures ∙ ap (λ (s : List ℕ). headerOf header s) (c .before .before .before .put-header .ensures ∙ ap (λ (x : Cycle). headerWith (c .before .before .before .before .before .before .before .before .before .before .args .date .now) (c .before .before .before .before .before .before .before .before .before .before .args .company .now) (x .0) 200) (c .before .before .before .before .given .ensures)))
+returns c =
+    let at-put-header = c .before .before .before in
+    let given = at-put-header .before .given in
+    let at-if1 = at-put-header .before .before .before .before in
+    let at-start = at-if1 .before .before .before .args in
+    rw (at-if1 .if1 .taken)
+    (c .header-in .ensures
+    ∙ ap (λ (s : List ℕ). headerOf header s)
+    (at-put-header .put-header .ensures
+    ∙ ap (λ (x : Cycle). headerWith (at-start .date .now) (at-start .company .now) (x .0) 200) (given .ensures)))
 
 returns-2 : tie.Need-returns-2
 unfolding loadHeader

@@ -16,7 +16,11 @@ is-before-requires : tie.Need-is-before-requires
 is-before-requires c κs = search needs
 
 returns : tie.Need-returns
-returns c = rw (← c .before .before .before .before .state .ensures, ← c .before .before .before .is-live .ensures, c .before .before .if1 .taken, ← c .before .day .ensures) (c .is-before .ensures)
+returns c =
+    let at-if1 = c .before .before in
+    let is-live = at-if1 .before .is-live in
+    let state = at-if1 .before .before .state in
+    rw (← state .ensures, ← is-live .ensures, at-if1 .if1 .taken, ← c .before .day .ensures) (c .is-before .ensures)
 
 returns-2 : tie.Need-returns-2
 returns-2 c = rw (← c .before .before .state .ensures, ← c .before .is-live .ensures, c .if1 .left) refl

@@ -10,7 +10,9 @@ is-register-sound-requires : tie.Need-is-register-sound-requires
 is-register-sound-requires c κs = search needs
 
 header-refusal-requires : tie.Need-header-refusal-requires
-header-refusal-requires c κs = few-slots (c .before .before .before .before .before .args .register .now) (sym (c .before .is-register-sound .ensures) ∙ c .if1 .taken)
+header-refusal-requires c κs =
+    let register = c .before .before .before .before .before .args .register .now in
+    few-slots register (sym (c .before .is-register-sound .ensures) ∙ c .if1 .taken)
 
 returns : tie.Need-returns
 unfolding loadRefusal

@@ -9,13 +9,25 @@ use Rattle.loading.proofs.write_file.Statement.{statement}
 use Rattle.loading.proofs.write_file.Tie as tie
 
 mul-end : tie.Need-mul-end
-mul-end c = let h = file-room (c .before .before .before .before .args .register .now) (c .before .before .before .before .args .entries) (length (c .before .before .before .before .args .out .now)) (c .before .before .before .before .pre .1 .0) (c .before .before .before .before .pre .1 .1) in search needs
+mul-end c =
+    let at-start = c .before .before .before .before .args in
+    let pre = c .before .before .before .before .pre in
+    let h = file-room (at-start .register .now) (at-start .entries) (length (at-start .out .now)) (pre .1 .0) (pre .1 .1) in
+    search needs
 
 add-end : tie.Need-add-end
-add-end c = let h = file-room (c .before .before .before .before .args .register .now) (c .before .before .before .before .args .entries) (length (c .before .before .before .before .args .out .now)) (c .before .before .before .before .pre .1 .0) (c .before .before .before .before .pre .1 .1) in search needs
+add-end c =
+    let at-start = c .before .before .before .before .args in
+    let pre = c .before .before .before .before .pre in
+    let h = file-room (at-start .register .now) (at-start .entries) (length (at-start .out .now)) (pre .1 .0) (pre .1 .1) in
+    search needs
 
 add-all : tie.Need-add-all
-add-all c = let h = file-room (c .before .before .before .before .args .register .now) (c .before .before .before .before .args .entries) (length (c .before .before .before .before .args .out .now)) (c .before .before .before .before .pre .1 .0) (c .before .before .before .before .pre .1 .1) in search needs
+add-all c =
+    let at-start = c .before .before .before .before .args in
+    let pre = c .before .before .before .before .pre in
+    let h = file-room (at-start .register .now) (at-start .entries) (length (at-start .out .now)) (pre .1 .0) (pre .1 .1) in
+    search needs
 
 sub-put-header : tie.Need-sub-put-header
 sub-put-header c = search needs
@@ -24,7 +36,11 @@ part-put-header-start : tie.Need-part-put-header-start
 part-put-header-start c = search needs
 
 part-put-header-end : tie.Need-part-put-header-end
-part-put-header-end c = let h = file-room (c .before .before .before .before .args .register .now) (c .before .before .before .before .args .entries) (length (c .before .before .before .before .args .out .now)) (c .before .before .before .before .pre .1 .0) (c .before .before .before .before .pre .1 .1) in search needs
+part-put-header-end c =
+    let at-start = c .before .before .before .before .args in
+    let pre = c .before .before .before .before .pre in
+    let h = file-room (at-start .register .now) (at-start .entries) (length (at-start .out .now)) (pre .1 .0) (pre .1 .1) in
+    search needs
 
 given-requires : tie.Need-given-requires
 given-requires c κs = search needs
@@ -39,7 +55,11 @@ part-write-lines-start : tie.Need-part-write-lines-start
 part-write-lines-start c = search needs
 
 part-write-lines-end : tie.Need-part-write-lines-end
-part-write-lines-end c = let h = file-room (c .before .before .before .before .before .before .before .before .before .args .register .now) (c .before .before .before .before .before .before .before .before .before .args .entries) (length (c .before .before .before .before .before .before .before .before .before .args .out .now)) (c .before .before .before .before .before .before .before .before .before .pre .1 .0) (c .before .before .before .before .before .before .before .before .before .pre .1 .1) in search needs
+part-write-lines-end c =
+    let at-start = c .before .before .before .before .before .before .before .before .before .args in
+    let pre = c .before .before .before .before .before .before .before .before .before .pre in
+    let h = file-room (at-start .register .now) (at-start .entries) (length (at-start .out .now)) (pre .1 .0) (pre .1 .1) in
+    search needs
 
 write-lines-requires : tie.Need-write-lines-requires
 write-lines-requires c κs = search needs
@@ -51,10 +71,19 @@ part-put-trailer-start : tie.Need-part-put-trailer-start
 part-put-trailer-start c = search needs
 
 part-put-trailer-end : tie.Need-part-put-trailer-end
-part-put-trailer-end c = let h = file-room (c .before .before .before .before .before .before .before .before .before .before .before .before .before .args .register .now) (c .before .before .before .before .before .before .before .before .before .before .before .before .before .args .entries) (length (c .before .before .before .before .before .before .before .before .before .before .before .before .before .args .out .now)) (c .before .before .before .before .before .before .before .before .before .before .before .before .before .pre .1 .0) (c .before .before .before .before .before .before .before .before .before .before .before .before .before .pre .1 .1) in search needs
+part-put-trailer-end c =
+    let at-start = c .before .before .before .before .before .before .before .before .before .before .before .before .before .args in
+    let pre = c .before .before .before .before .before .before .before .before .before .before .before .before .before .pre in
+    let h = file-room (at-start .register .now) (at-start .entries) (length (at-start .out .now)) (pre .1 .0) (pre .1 .1) in
+    search needs
 
 cast-put-trailer : tie.Need-cast-put-trailer
-cast-put-trailer c = let f = entries-few (c .before .before .before .before .before .before .before .before .before .before .before .before .before .before .args .register .now) _ (c .before .before .before .before .before .before .before .before .before .before .before .before .before .before .pre .1 .0) (c .before .before .before .before .before .before .before .before .before .before .before .before .before .before .pre .0) in search needs
+cast-put-trailer c =
+    let pre = c .before .before .before .before .before .before .before .before .before .before .before .before .before .before .pre in
+    let register = c .before .before .before .before .before .before .before .before .before .before .before .before .before .before .args
+    .register .now in
+    let f = entries-few register _ (pre .1 .0) (pre .0) in
+    search needs
 
 put-trailer-requires : tie.Need-put-trailer-requires
 put-trailer-requires c κs = search needs
@@ -63,7 +92,22 @@ same-length : tie.Need-same-length
 same-length c = search needs
 
 returns : tie.Need-returns
-returns c = file-written (c .before .before .before .before .before .before .before .before .before .before .before .before .before .before .before .before .before .args .register .now) (c .before .before .before .before .before .before .before .before .before .before .before .before .before .before .before .before .before .args .date .now) (c .before .before .before .before .before .before .before .before .before .before .before .before .before .before .before .before .before .args .company .now) (c .before .before .before .before .before .before .before .before .before .before .before .before .before .before .before .before .before .args .cycle) (c .before .before .before .before .before .before .before .before .before .before .before .before .before .before .before .before .before .args .entries) (c .before .before .before .before .before .before .before .before .before .before .before .before .before .before .before .before .before .args .out .now) (c .before .before .before .before .before .before .before .before .before .before .before .before .before .before .before .before .before .pre .1 .0) (c .before .before .before .before .before .before .before .before .before .before .before .before .before .before .before .before .before .pre .1 .1) (c .before .before .before .before .before .before .before .before .before .before .put-header .last .0) (c .before .before .before .before .before .before .write-lines .last .1 .0) (c .before .before .put-trailer .last .0) (c .before .before .before .before .before .before .before .before .before .before .put-header .ensures ∙ ap (λ (x : Cycle). headerWith (c .before .before .before .before .before .before .before .before .before .before .before .before .before .before .before .before .before .args .date .now) (c .before .before .before .before .before .before .before .before .before .before .before .before .before .before .before .before .before .args .company .now) (x .0) (length (take 200 (drop 0 (c .before .before .before .before .before .before .before .before .before .before .before .before .before .before .before .before .before .args .out .now))))) (c .before .before .before .before .before .before .before .before .before .before .before .given .ensures)) (c .before .before .before .before .before .before .write-lines .ensures) (c .before .before .put-trailer .ensures)
+returns c =
+    let put-trailer = c .before .before .put-trailer in
+    let at-write-lines = c .before .before .before .before .before .before in
+    let write-lines = at-write-lines .write-lines in
+    let at-put-header = at-write-lines .before .before .before .before in
+    let put-header = at-put-header .put-header in
+    let given = at-put-header .before .given in
+    let at-start = at-put-header .before .before .before .before .before .before .before in
+    let pre = at-start .pre in
+    let date = at-start .args .date .now in
+    let company = at-start .args .company .now in
+    let out = at-start .args .out .now in
+    file-written (at-start .args .register .now) date company (at-start .args .cycle) (at-start .args .entries) out (pre .1 .0) (pre .1 .1)
+    (put-header .last .0) (write-lines .last .1 .0) (put-trailer .last .0)
+    (put-header .ensures ∙ ap (λ (x : Cycle). headerWith date company (x .0) (length (take 200 (drop 0 out)))) (given .ensures))
+    (write-lines .ensures) (put-trailer .ensures)
 
 pub write-file-spec : {M : Type 1} → statement M
 write-file-spec =

@@ -18,7 +18,12 @@ same-length : tie.Need-same-length
 same-length c = search needs
 
 returns : tie.Need-returns
-returns c = c .before .before .mark-for-load .ensures ∙ ap (λ (s : List ℕ). forLoad s) (c .before .before .before .before .before .before .put .ensures ∙ put-all (c .before .before .before .before .before .before .before .before .before .before .args .rec .now) (c .before .before .before .before .before .before .before .before .before .before .args .line .now) (c .before .before .before .before .before .before .before .before .before .before .pre))
+returns c =
+    let mark-for-load = c .before .before .mark-for-load in
+    let at-put = c .before .before .before .before .before .before in
+    let at-start = at-put .before .before .before .before in
+    mark-for-load .ensures
+    ∙ ap (λ (s : List ℕ). forLoad s) (at-put .put .ensures ∙ put-all (at-start .args .rec .now) (at-start .args .line .now) (at-start .pre))
 
 pub write-line-spec : {M : Type 1} → statement M
 write-line-spec = tie.close (tie.spec put-requires mark-for-load-requires same-length returns)

@@ -34,7 +34,19 @@ part-write-entry-end c = search needs
 
 write-entry-requires : tie.Need-write-entry-requires Inv-loop μ-loop
 unfolding entryAt
-write-entry-requires c κs = rw (place-part 520 (c .before .before .before .before .before .before .args .register .now) (c .before .before .before .loop .i)) (length-slot-at (c .before .before .before .before .before .before .args .register .now) (c .before .before .before .loop .i) (c .before .before .loop-test .taken), rw (laid-length (c .before .before .before .before .before .before .args .register .now) (c .before .before .before .before .before .before .args .out .now) (c .before .before .before .before .before .before .pre .1) (c .before .before .before .loop .i) (c .before .before .before .loop .at) (c .before .before .before .loop .out) (c .before .before .before .loop .inv)) (laid-room (c .before .before .before .before .before .before .args .register .now) (c .before .before .before .before .before .before .args .out .now) (c .before .before .before .before .before .before .pre .1) (c .before .before .before .loop .i) (c .before .before .before .loop .at) (c .before .before .before .loop .out) (c .before .before .before .loop .inv) (c .before .before .loop-test .taken)))
+write-entry-requires c κs =
+    let loop-test = c .before .before .loop-test in
+    let at-loop = c .before .before .before in
+    let i = at-loop .loop .i in
+    let at-start = at-loop .before .before .before in
+    let pre = at-start .pre in
+    let register = at-start .args .register .now in
+    let out = at-start .args .out .now in
+    rw (place-part 520 register i) (
+      length-slot-at register i (loop-test .taken),
+      rw (laid-length register out (pre .1) i (at-loop .loop .at) (at-loop .loop .out) (at-loop .loop .inv))
+          (laid-room register out (pre .1) i (at-loop .loop .at) (at-loop .loop .out) (at-loop .loop .inv) (loop-test .taken)),
+    )
 
 add-i : tie.Need-add-i Inv-loop μ-loop
 add-i c = search needs
@@ -44,13 +56,30 @@ loop-less c = search needs
 
 loop-again : tie.Need-loop-again Inv-loop μ-loop
 unfolding entryAt
-loop-again c = laid-more (c .before .before .before .before .before .before .before .before .before .args .register .now) (c .before .before .before .before .before .before .before .before .before .args .out .now) (c .before .before .before .before .before .before .before .before .before .pre .1) (c .before .before .before .before .before .before .loop .i) (c .before .before .before .before .before .before .loop .at) (c .before .before .before .before .before .before .loop .out) (c .before .before .before .before .before .before .loop .inv) (c .before .before .before .before .before .loop-test .taken) (c .before .before .write-entry .result) (rw (place-part 520 (c .before .before .before .before .before .before .before .before .before .args .register .now) (c .before .before .before .before .before .before .loop .i)) at (c .before .before .write-entry .ensures .0)) (c .before .before .write-entry .last .1 .0) (rw (place-part 520 (c .before .before .before .before .before .before .before .before .before .args .register .now) (c .before .before .before .before .before .before .loop .i)) at (c .before .before .write-entry .ensures .1))
+loop-again c =
+    let write-entry = c .before .before .write-entry in
+    let at-loop-test = c .before .before .before .before .before in
+    let at-loop = at-loop-test .before in
+    let i = at-loop .loop .i in
+    let at-start = at-loop .before .before .before in
+    let register = at-start .args .register .now in
+    laid-more register (at-start .args .out .now) (at-start .pre .1) i (at-loop .loop .at) (at-loop .loop .out) (at-loop .loop .inv)
+    (at-loop-test .loop-test .taken) (write-entry .result) (rw (place-part 520 register i) at (write-entry .ensures .0))
+    (write-entry .last .1 .0) (rw (place-part 520 register i) at (write-entry .ensures .1))
 
 same-length : tie.Need-same-length Inv-loop μ-loop
-same-length c = laid-length (c .before .before .before .before .args .register .now) (c .before .before .before .before .args .out .now) (c .before .before .before .before .pre .1) (c .before .loop .i) (c .before .loop .at) (c .before .loop .out) (c .before .loop .inv)
+same-length c =
+    let at-loop = c .before in
+    let at-start = at-loop .before .before .before in
+    laid-length (at-start .args .register .now) (at-start .args .out .now) (at-start .pre .1) (at-loop .loop .i) (at-loop .loop .at)
+    (at-loop .loop .out) (at-loop .loop .inv)
 
 returns : tie.Need-returns Inv-loop μ-loop
-returns c = laid-all (c .before .before .before .before .args .register .now) (c .before .before .before .before .args .out .now) (c .before .before .before .before .pre .1) (c .before .loop .i) (c .before .loop .at) (c .before .loop .out) (c .before .loop .inv) (c .loop-test .left)
+returns c =
+    let at-loop = c .before in
+    let at-start = at-loop .before .before .before in
+    laid-all (at-start .args .register .now) (at-start .args .out .now) (at-start .pre .1) (at-loop .loop .i) (at-loop .loop .at)
+    (at-loop .loop .out) (at-loop .loop .inv) (c .loop-test .left)
 
 pub write-lines-spec : {M : Type 1} → statement M
 write-lines-spec =

@@ -17,29 +17,64 @@ count-entries-requires : tie.Need-count-entries-requires
 count-entries-requires c κs = search needs
 
 write-file-requires : tie.Need-write-file-requires
-write-file-requires c κs = (few-slots (c .before .before .before .before .before .before .before .before .args .register .now) (written-is (c .before .before .before .before .before .before .before .before .args .register .now) (c .before .before .before .before .before .before .before .before .args .date .now) (c .before .before .before .before .before .before .before .before .args .company .now) (c .before .before .before .before .before .before .before .before .args .cycle) (length (c .before .before .before .before .before .before .before .before .args .out .now)) (sym (c .before .before .before .refusal .ensures) ∙ c .before .before .if1 .taken) .sound), (c .before .count-entries .ensures .0, written-is (c .before .before .before .before .before .before .before .before .args .register .now) (c .before .before .before .before .before .before .before .before .args .date .now) (c .before .before .before .before .before .before .before .before .args .company .now) (c .before .before .before .before .before .before .before .before .args .cycle) (length (c .before .before .before .before .before .before .before .before .args .out .now)) (sym (c .before .before .before .refusal .ensures) ∙ c .before .before .if1 .taken) .fits))
+write-file-requires c κs =
+    let at-if1 = c .before .before in
+    let if1 = at-if1 .if1 in
+    let refusal = at-if1 .before .refusal in
+    let at-start = at-if1 .before .before .before .before .before .before .args in
+    let cycle = at-start .cycle in
+    let register = at-start .register .now in
+    let date = at-start .date .now in
+    let company = at-start .company .now in
+    let out = at-start .out .now in (
+      few-slots register (written-is register date company cycle (length out) (sym (refusal .ensures) ∙ if1 .taken) .sound),
+      (
+        c .before .count-entries .ensures .0,
+        written-is register date company cycle (length out) (sym (refusal .ensures) ∙ if1 .taken) .fits,
+      ),
+    )
 
-add-t13 : tie.Need-add-t13
-add-t13 c = search needs
+mul-t13 : tie.Need-mul-t13
+mul-t13 c = search needs
 
-mul-t14 : tie.Need-mul-t14
-mul-t14 c = search needs
+add-t14 : tie.Need-add-t14
+add-t14 c = search needs
 
-add-t15 : tie.Need-add-t15
-add-t15 c = search needs
+cast-t15 : tie.Need-cast-t15
+cast-t15 c =
+    let at-count-entries = c .before .before .before .before in
+    let if1 = at-count-entries .before .if1 in
+    let refusal = at-count-entries .before .before .refusal in
+    let at-start = at-count-entries .before .before .before .before .before .before .before .args in
+    let register = at-start .register .now in
+    let f = few-slots register
+    (written-is register (at-start .date .now) (at-start .company .now) (at-start .cycle) (length (at-start .out .now))
+    (sym (refusal .ensures) ∙ if1 .taken) .sound) in
+    omega (arith, f, at-count-entries .count-entries .ensures .1)
 
 cast-t16 : tie.Need-cast-t16
-cast-t16 c = let f = few-slots (c .before .before .before .before .before .before .before .before .before .before .before .args .register .now) (written-is (c .before .before .before .before .before .before .before .before .before .before .before .args .register .now) (c .before .before .before .before .before .before .before .before .before .before .before .args .date .now) (c .before .before .before .before .before .before .before .before .before .before .before .args .company .now) (c .before .before .before .before .before .before .before .before .before .before .before .args .cycle) (length (c .before .before .before .before .before .before .before .before .before .before .before .args .out .now)) (sym (c .before .before .before .before .before .before .refusal .ensures) ∙ c .before .before .before .before .before .if1 .taken) .sound) in omega (arith, f, c .before .before .before .before .count-entries .ensures .1)
-
-cast-t17 : tie.Need-cast-t17
-cast-t17 c = let f = few-slots (c .before .before .before .before .before .before .before .before .before .before .before .args .register .now) (written-is (c .before .before .before .before .before .before .before .before .before .before .before .args .register .now) (c .before .before .before .before .before .before .before .before .before .before .before .args .date .now) (c .before .before .before .before .before .before .before .before .before .before .before .args .company .now) (c .before .before .before .before .before .before .before .before .before .before .before .args .cycle) (length (c .before .before .before .before .before .before .before .before .before .before .before .args .out .now)) (sym (c .before .before .before .before .before .before .refusal .ensures) ∙ c .before .before .before .before .before .if1 .taken) .sound) in omega (arith, f, c .before .before .before .before .count-entries .ensures .1)
+cast-t16 c =
+    let at-count-entries = c .before .before .before .before in
+    let if1 = at-count-entries .before .if1 in
+    let refusal = at-count-entries .before .before .refusal in
+    let at-start = at-count-entries .before .before .before .before .before .before .before .args in
+    let register = at-start .register .now in
+    let f = few-slots register
+    (written-is register (at-start .date .now) (at-start .company .now) (at-start .cycle) (length (at-start .out .now))
+    (sym (refusal .ensures) ∙ if1 .taken) .sound) in
+    omega (arith, f, at-count-entries .count-entries .ensures .1)
 
 same-length : tie.Need-same-length
 same-length c = search needs
 
 returns : tie.Need-returns
 unfolding loaded loadSize
-returns c = rw (← c .before .before .before .before .before .before .refusal .ensures, c .before .before .before .before .before .if1 .taken) (rw (c .before .before .before .before .count-entries .ensures .0) refl, c .before .before .write-file .ensures)
+returns c =
+    let write-file = c .before .before .write-file in
+    let at-count-entries = c .before .before .before .before in
+    let if1 = at-count-entries .before .if1 in
+    let refusal = at-count-entries .before .before .refusal in
+    rw (← refusal .ensures, if1 .taken) (rw (at-count-entries .count-entries .ensures .0) refl, write-file .ensures)
 
 returns-2 : tie.Need-returns-2
 unfolding loaded
@@ -52,11 +87,10 @@ write-load-spec =
     refusal-requires
     count-entries-requires
     write-file-requires
-    add-t13
-    mul-t14
-    add-t15
+    mul-t13
+    add-t14
+    cast-t15
     cast-t16
-    cast-t17
     same-length
     returns
     returns-2)

@@ -36,22 +36,26 @@ mul-result-2 c = search needs
 
 mul-result-3 : tie.Need-mul-result-3
 mul-result-3 c =
-    let b = bounded _ _ (c .before .before .before .before .look .ensures) in
+    let look = c .before .before .before .before .look in
+    let b = bounded _ _ (look .ensures) in
     omega (arith, b .refusal, b .state, b .slot, b .looked)
 
 add-result : tie.Need-add-result
 add-result c =
-    let b = bounded _ _ (c .before .before .before .before .look .ensures) in
+    let look = c .before .before .before .before .look in
+    let b = bounded _ _ (look .ensures) in
     omega (arith, b .refusal, b .state, b .slot, b .looked)
 
 add-result-2 : tie.Need-add-result-2
 add-result-2 c =
-    let b = bounded _ _ (c .before .before .before .before .look .ensures) in
+    let look = c .before .before .before .before .look in
+    let b = bounded _ _ (look .ensures) in
     omega (arith, b .refusal, b .state, b .slot, b .looked)
 
 add-result-3 : tie.Need-add-result-3
 add-result-3 c =
-    let b = bounded _ _ (c .before .before .before .before .look .ensures) in
+    let look = c .before .before .before .before .look in
+    let b = bounded _ _ (look .ensures) in
     omega (arith, b .refusal, b .state, b .slot, b .looked)
 
 returns : tie.Need-returns

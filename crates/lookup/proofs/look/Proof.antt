@@ -16,14 +16,22 @@ seen-in-requires c κs = long-few _ (sym (c .before .before .before .is-register
 
 returns : tie.Need-returns
 unfolding seen
-returns c = rw (← c .before .before .before .before .is-register-long .ensures, c .before .before .before .if1 .taken, ← c .before .before .is-number .ensures, c .before .if2 .taken) (c .seen-in .ensures)
+returns c =
+    let at-is-number = c .before .before in
+    let if1 = at-is-number .before .if1 in
+    let is-register-long = at-is-number .before .before .is-register-long in
+    rw (← is-register-long .ensures, if1 .taken, ← at-is-number .is-number .ensures, c .before .if2 .taken) (c .seen-in .ensures)
 
 unseen-requires : tie.Need-unseen-requires
 unseen-requires c κs = search needs
 
 returns-2 : tie.Need-returns-2
 unfolding seen
-returns-2 c = rw (← c .before .before .before .before .is-register-long .ensures, c .before .before .before .if1 .taken, ← c .before .before .is-number .ensures, c .before .if2 .left) (c .unseen .ensures)
+returns-2 c =
+    let at-is-number = c .before .before in
+    let if1 = at-is-number .before .if1 in
+    let is-register-long = at-is-number .before .before .is-register-long in
+    rw (← is-register-long .ensures, if1 .taken, ← at-is-number .is-number .ensures, c .before .if2 .left) (c .unseen .ensures)
 
 unseen-requires-2 : tie.Need-unseen-requires-2
 unseen-requires-2 c κs = search needs

@@ -22,7 +22,11 @@ find-number-requires c κs = search needs
 
 cast-looked : tie.Need-cast-looked
 cast-looked c =
-    let f = few (ap (λ (x : Sought). x .looked) (c .before .find-number .ensures)) (walked-le (hasNumber (c .before .before .before .before .args .number .now) (c .before .before .before .before .args .register .now)) (slots (c .before .before .before .before .args .register .now))) (c .before .before .before .before .pre) in
+    let at-start = c .before .before .before .before .args in
+    let pre = c .before .before .before .before .pre in
+    let register = at-start .register .now in
+    let f = few (ap (λ (x : Sought). x .looked) (c .before .find-number .ensures))
+    (walked-le (hasNumber (at-start .number .now) register) (slots register)) pre in
     search needs
 
 enum-known-found : tie.Need-enum-known-found
@@ -33,19 +37,43 @@ enum-told c = search needs
 
 returns : tie.Need-returns
 unfolding seenIn findNumber
-returns c = rw (sym (ap (λ (x : Sought). x .found) (c .before .before .before .find-number .ensures)) ∙ c .enum-told .given .1, ← ap (λ (x : Sought). x .looked) (c .before .before .before .find-number .ensures)) refl
+returns c =
+    let find-number = c .before .before .before .find-number in
+    rw (
+      sym (ap (λ (x : Sought). x .found) (find-number .ensures)) ∙ c .enum-told .given .1,
+      ← ap (λ (x : Sought). x .looked) (find-number .ensures),
+    ) refl
 
 state-at-requires : tie.Need-state-at-requires
-state-at-requires c κs = find-some (hasNumber (c .before .before .before .before .before .before .before .args .number .now) (c .before .before .before .before .before .before .before .args .register .now)) (slots (c .before .before .before .before .before .before .before .args .register .now)) _ (sym (ap (λ (x : Sought). x .found) (c .before .before .before .before .find-number .ensures)) ∙ c .before .found .given .1) .0
+state-at-requires c κs =
+    let at-find-number = c .before .before .before .before in
+    let at-start = at-find-number .before .before .before .args in
+    let register = at-start .register .now in
+    find-some (hasNumber (at-start .number .now) register) (slots register) _
+    (sym (ap (λ (x : Sought). x .found) (at-find-number .find-number .ensures)) ∙ c .before .found .given .1) .0
 
 cast-t8 : tie.Need-cast-t8
 cast-t8 c =
-    let f = below (find-some (hasNumber (c .before .before .before .before .before .before .before .before .args .number .now) (c .before .before .before .before .before .before .before .before .args .register .now)) (slots (c .before .before .before .before .before .before .before .before .args .register .now)) _ (sym (ap (λ (x : Sought). x .found) (c .before .before .before .before .before .find-number .ensures)) ∙ c .before .before .found .given .1) .0) (c .before .before .before .before .before .before .before .before .pre) in
+    let found = c .before .before .found in
+    let find-number = c .before .before .before .before .before .find-number in
+    let at-start = c .before .before .before .before .before .before .before .before .args in
+    let pre = c .before .before .before .before .before .before .before .before .pre in
+    let register = at-start .register .now in
+    let f = below
+    (find-some (hasNumber (at-start .number .now) register) (slots register) _
+    (sym (ap (λ (x : Sought). x .found) (find-number .ensures)) ∙ found .given .1) .0) pre in
     search needs
 
 returns-2 : tie.Need-returns-2
 unfolding seenIn findNumber
-returns-2 c = rw (sym (ap (λ (x : Sought). x .found) (c .before .before .before .before .before .find-number .ensures)) ∙ c .before .before .found .given .1, ← ap (λ (x : Sought). x .looked) (c .before .before .before .before .before .find-number .ensures), ← c .state-at .ensures) refl
+returns-2 c =
+    let found = c .before .before .found in
+    let find-number = c .before .before .before .before .before .find-number in
+    rw (
+      sym (ap (λ (x : Sought). x .found) (find-number .ensures)) ∙ found .given .1,
+      ← ap (λ (x : Sought). x .looked) (find-number .ensures),
+      ← c .state-at .ensures,
+    ) refl
 
 pub seen-in-spec : {M : Type 1} → statement M
 seen-in-spec =

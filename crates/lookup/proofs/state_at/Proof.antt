@@ -30,7 +30,9 @@ cast-result : tie.Need-cast-result
 cast-result c = search needs
 
 returns : tie.Need-returns
-returns c = c .state .ensures ∙ ap (λ (s : List ℕ). stateOf s) (place-part 520 (c .before .before .before .args .register .now) (c .before .before .before .args .i))
+returns c =
+    let at-start = c .before .before .before .args in
+    c .state .ensures ∙ ap (λ (s : List ℕ). stateOf s) (place-part 520 (at-start .register .now) (at-start .i))
 
 pub state-at-spec : {M : Type 1} → statement M
 state-at-spec =

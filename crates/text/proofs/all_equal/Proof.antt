@@ -29,13 +29,23 @@ loop-less : tie.Need-loop-less Inv-loop μ-loop
 loop-less c = search needs
 
 loop-again : tie.Need-loop-again Inv-loop μ-loop
-loop-again c = (
-  search needs,
-  all-more (λ x. eqb x (c .before .before .before .args .b)) (allEqual (c .before .before .before .args .b)) (c .before .before .before .args .f .now) (c .before .before .loop .i) (c .before .before .loop .all) (c .before .before .loop .inv .1) (eqb (getD (c .before .before .before .args .f .now) (c .before .before .loop .i) 0) (c .before .before .before .args .b)) (λ x l. refl) (c .before .loop-test .taken) refl,
-)
+loop-again c =
+    let loop = c .before .before .loop in
+    let at-start = c .before .before .before .args in
+    let b = at-start .b in
+    let f = at-start .f .now in (
+      search needs,
+      all-more (λ x. eqb x b) (allEqual b) f (loop .i) (loop .all) (loop .inv .1) (eqb (getD f (loop .i) 0) b) (λ x l. refl)
+          (c .before .loop-test .taken) refl,
+    )
 
 returns : tie.Need-returns Inv-loop μ-loop
-returns c = all-done (λ x. eqb x (c .before .before .args .b)) (allEqual (c .before .before .args .b)) (c .before .before .args .f .now) (c .before .loop .i) (c .before .loop .all) (c .before .loop .inv .1) refl (c .loop-test .left)
+returns c =
+    let at-loop = c .before in
+    let at-start = at-loop .before .args in
+    let b = at-start .b in
+    all-done (λ x. eqb x b) (allEqual b) (at-start .f .now) (at-loop .loop .i) (at-loop .loop .all) (at-loop .loop .inv .1) refl
+    (c .loop-test .left)
 
 pub all-equal-spec : {M : Type 1} → statement M
 all-equal-spec =

@@ -31,13 +31,23 @@ loop-less : tie.Need-loop-less Inv-loop μ-loop
 loop-less c = search needs
 
 loop-again : tie.Need-loop-again Inv-loop μ-loop
-loop-again c = (
-  search needs,
-  all-more (inClass (c .before .before .before .before .before .args .k)) (allIn (c .before .before .before .before .before .args .k)) (c .before .before .before .before .before .args .f .now) (c .before .before .before .loop .i) (c .before .before .before .loop .all) (c .before .before .before .loop .inv .1) (c .in-class .result) (λ x l. refl) (c .before .before .loop-test .taken) (c .in-class .ensures),
-)
+loop-again c =
+    let loop-test = c .before .before .loop-test in
+    let loop = c .before .before .before .loop in
+    let at-start = c .before .before .before .before .before .args in
+    let k = at-start .k in (
+      search needs,
+      all-more (inClass k) (allIn k) (at-start .f .now) (loop .i) (loop .all) (loop .inv .1) (c .in-class .result) (λ x l. refl)
+          (loop-test .taken) (c .in-class .ensures),
+    )
 
 returns : tie.Need-returns Inv-loop μ-loop
-returns c = all-done (inClass (c .before .before .before .args .k)) (allIn (c .before .before .before .args .k)) (c .before .before .before .args .f .now) (c .before .loop .i) (c .before .loop .all) (c .before .loop .inv .1) refl (c .loop-test .left)
+returns c =
+    let at-loop = c .before in
+    let at-start = at-loop .before .before .args in
+    let k = at-start .k in
+    all-done (inClass k) (allIn k) (at-start .f .now) (at-loop .loop .i) (at-loop .loop .all) (at-loop .loop .inv .1) refl
+    (c .loop-test .left)
 
 pub all-in-spec : {M : Type 1} → statement M
 all-in-spec =

@@ -29,16 +29,16 @@ loop-less : tie.Need-loop-less Inv-loop μ-loop
 loop-less c = search needs
 
 loop-again : tie.Need-loop-again Inv-loop μ-loop
-loop-again c = (
-  search needs,
-  rw (sym (c .before .member .ensures) ∙ c .if1 .taken) at
-      (turn (allOf _) _ _ (c .before .before .before .loop-test .taken) (c .before .before .before .before .loop .inv .1)),
-)
+loop-again c =
+    let loop-test = c .before .before .before .loop-test in
+    let inv = c .before .before .before .before .loop .inv in
+    (search needs, rw (sym (c .before .member .ensures) ∙ c .if1 .taken) at (turn (allOf _) _ _ (loop-test .taken) (inv .1)))
 
 returns : tie.Need-returns Inv-loop μ-loop
 returns c =
-    (rw (sym (c .before .member .ensures) ∙ c .if1 .left) at
-    (turn (allOf _) _ _ (c .before .before .before .loop-test .taken) (c .before .before .before .before .loop .inv .1)))
+    let loop-test = c .before .before .before .loop-test in
+    let inv = c .before .before .before .before .loop .inv in
+    (rw (sym (c .before .member .ensures) ∙ c .if1 .left) at (turn (allOf _) _ _ (loop-test .taken) (inv .1)))
 
 returns-2 : tie.Need-returns-2 Inv-loop μ-loop
 returns-2 c = ended (allOf _) _ _ (c .loop-test .left) (c .before .loop .inv .1)

@@ -13,11 +13,19 @@ is-there-requires-2 : tie.Need-is-there-requires-2
 is-there-requires-2 c κs = search needs
 
 are-words-same-requires : tie.Need-are-words-same-requires
-are-words-same-requires c κs = (leb-true _ _ (sym (c .before .before .is-there .ensures) ∙ and-left (c .before .before .is-there .result) (c .before .is-there2 .result) (c .if1 .taken)), leb-true _ _ (sym (c .before .is-there2 .ensures) ∙ and-right (c .before .before .is-there .result) (c .before .is-there2 .result) (c .if1 .taken)))
+are-words-same-requires c κs =
+    let is-there2 = c .before .is-there2 in
+    let is-there = c .before .before .is-there in (
+      leb-true _ _ (sym (is-there .ensures) ∙ and-left (is-there .result) (is-there2 .result) (c .if1 .taken)),
+      leb-true _ _ (sym (is-there2 .ensures) ∙ and-right (is-there .result) (is-there2 .result) (c .if1 .taken)),
+    )
 
 returns : tie.Need-returns
 unfolding eightSame
-returns c = rw (← c .before .before .before .is-there .ensures, ← c .before .before .is-there2 .ensures, c .before .if1 .taken) (c .are-words-same .ensures)
+returns c =
+    let is-there2 = c .before .before .is-there2 in
+    let is-there = c .before .before .before .is-there in
+    rw (← is-there .ensures, ← is-there2 .ensures, c .before .if1 .taken) (c .are-words-same .ensures)
 
 returns-2 : tie.Need-returns-2
 unfolding eightSame

@@ -29,10 +29,16 @@ loop-less : tie.Need-loop-less Inv-loop μ-loop
 loop-less c = search needs
 
 loop-again : tie.Need-loop-again Inv-loop μ-loop
-loop-again c = (search needs, search needs, same-more _ _ _ (c .before .before .before .before .loop .inv .2) (c .before .before .before .loop-test .taken) (search needs) (c .if1 .taken))
+loop-again c =
+    let loop-test = c .before .before .before .loop-test in
+    let inv = c .before .before .before .before .loop .inv in
+    (search needs, search needs, same-more _ _ _ (inv .2) (loop-test .taken) (search needs) (c .if1 .taken))
 
 returns : tie.Need-returns Inv-loop μ-loop
-returns c = same-not _ _ _ (c .before .before .before .before .loop .inv .2) (c .before .before .before .loop-test .taken) (search needs) (c .if1 .left)
+returns c =
+    let loop-test = c .before .before .before .loop-test in
+    let inv = c .before .before .before .before .loop .inv in
+    same-not _ _ _ (inv .2) (loop-test .taken) (search needs) (c .if1 .left)
 
 returns-2 : tie.Need-returns-2 Inv-loop μ-loop
 returns-2 c = same-all _ _ _ (c .before .loop .inv .2) (c .loop-test .left) (search needs)

@@ -35,7 +35,13 @@ add-result-3 : tie.Need-add-result-3
 add-result-3 c = search needs
 
 returns : tie.Need-returns
-returns c = rw (← c .before .before .before .wide .ensures .0, ← c .before .before .wide2 .ensures .0, ← c .before .wide3 .ensures .0, ← c .wide4 .ensures .0) (four-spaces (c .before .before .before .wide .result) (c .before .before .wide2 .result) (c .before .wide3 .result) (c .wide4 .result) _ (c .before .before .before .wide .ensures .1) (c .before .before .wide2 .ensures .1) (c .before .wide3 .ensures .1) (c .wide4 .ensures .1) refl)
+returns c =
+    let wide3 = c .before .wide3 in
+    let wide2 = c .before .before .wide2 in
+    let wide = c .before .before .before .wide in
+    rw (← wide .ensures .0, ← wide2 .ensures .0, ← wide3 .ensures .0, ← c .wide4 .ensures .0)
+    (four-spaces (wide .result) (wide2 .result) (wide3 .result) (c .wide4 .result) _ (wide .ensures .1) (wide2 .ensures .1)
+    (wide3 .ensures .1) (c .wide4 .ensures .1) refl)
 
 pub are-spaces-spec : {M : Type 1} → statement M
 are-spaces-spec =

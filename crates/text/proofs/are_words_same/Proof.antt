@@ -28,7 +28,10 @@ is-word-same-requires : tie.Need-is-word-same-requires
 is-word-same-requires c κs = search needs
 
 returns : tie.Need-returns
-returns c = rw (part-is (c .before .before .before .before .before .args .a .now) (c .before .before .before .before .before .args .i) 8, part-is (c .before .before .before .before .before .args .b .now) (c .before .before .before .before .before .args .i) 8) at (c .is-word-same .ensures)
+returns c =
+    let at-start = c .before .before .before .before .before .args in
+    let i = at-start .i in
+    rw (part-is (at-start .a .now) i 8, part-is (at-start .b .now) i 8) at (c .is-word-same .ensures)
 
 pub are-words-same-spec : {M : Type 1} → statement M
 are-words-same-spec =

@@ -25,19 +25,32 @@ add-i : tie.Need-add-i Inv-loop μ-loop
 add-i c = search needs
 
 loop-less : tie.Need-loop-less Inv-loop μ-loop
-loop-less c = omega (arith, fill-length (c .before .loop .i) (c .before .before .args .b) (c .before .before .args .s .now) (c .before .loop .inv .1) (c .before .loop .inv .0))
+loop-less c =
+    let at-loop = c .before in
+    let at-start = at-loop .before .args in
+    omega (arith, fill-length (at-loop .loop .i) (at-start .b) (at-start .s .now) (at-loop .loop .inv .1) (at-loop .loop .inv .0))
 
 loop-again : tie.Need-loop-again Inv-loop μ-loop
-loop-again c = (
-  omega (arith, fill-length (c .before .loop .i) (c .before .before .args .b) (c .before .before .args .s .now) (c .before .loop .inv .1) (c .before .loop .inv .0)),
-  fill-more (c .before .loop .i) (c .before .before .args .b) (c .before .before .args .s .now) (c .before .loop .inv .1) (omega (arith, fill-length (c .before .loop .i) (c .before .before .args .b) (c .before .before .args .s .now) (c .before .loop .inv .1) (c .before .loop .inv .0))),
-)
+loop-again c =
+    let at-loop = c .before in
+    let i = at-loop .loop .i in
+    let inv = at-loop .loop .inv in
+    let at-start = at-loop .before .args in
+    let b = at-start .b in
+    let s = at-start .s .now in
+    (omega (arith, fill-length i b s (inv .1) (inv .0)), fill-more i b s (inv .1) (omega (arith, fill-length i b s (inv .1) (inv .0))))
 
 same-length : tie.Need-same-length Inv-loop μ-loop
-same-length c = fill-length (c .before .loop .i) (c .before .before .args .b) (c .before .before .args .s .now) (c .before .loop .inv .1) (c .before .loop .inv .0)
+same-length c =
+    let at-loop = c .before in
+    let at-start = at-loop .before .args in
+    fill-length (at-loop .loop .i) (at-start .b) (at-start .s .now) (at-loop .loop .inv .1) (at-loop .loop .inv .0)
 
 returns : tie.Need-returns Inv-loop μ-loop
-returns c = fill-all (c .before .loop .i) (c .before .before .args .b) (c .before .before .args .s .now) (c .before .loop .inv .1) (c .before .loop .inv .0) (c .loop-test .left)
+returns c =
+    let at-loop = c .before in
+    let at-start = at-loop .before .args in
+    fill-all (at-loop .loop .i) (at-start .b) (at-start .s .now) (at-loop .loop .inv .1) (at-loop .loop .inv .0) (c .loop-test .left)
 
 pub fill-spec : {M : Type 1} → statement M
 fill-spec =

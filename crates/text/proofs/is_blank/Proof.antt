@@ -39,7 +39,11 @@ all-in-requires-3 : tie.Need-all-in-requires-3
 all-in-requires-3 c κs = search needs
 
 returns-2 : tie.Need-returns-2
-returns-2 c = let e = rw rest-is at (c .all-in3 .ensures) in rw (c .before .before .all-in2 .ensures, e) (all-meet Space 4 (length (c .before .before .before .before .before .before .before .args .f .now) - 4) (c .before .before .before .before .before .before .before .args .f .now) (omega arith))
+returns-2 c =
+    let all-in2 = c .before .before .all-in2 in
+    let f = c .before .before .before .before .before .before .before .args .f .now in
+    let e = rw rest-is at (c .all-in3 .ensures) in
+    rw (all-in2 .ensures, e) (all-meet Space 4 (length f - 4) f (omega arith))
 
 sub-all-in-3 : tie.Need-sub-all-in-3
 sub-all-in-3 c = search needs
@@ -66,7 +70,11 @@ all-in-requires-5 : tie.Need-all-in-requires-5
 all-in-requires-5 c κs = search needs
 
 returns-3 : tie.Need-returns-3
-returns-3 c = let e = rw rest-is at (c .all-in5 .ensures) in rw (c .before .before .all-in4 .ensures, e) (all-meet Space 8 (length (c .before .before .before .before .before .before .before .before .args .f .now) - 8) (c .before .before .before .before .before .before .before .before .args .f .now) (omega arith))
+returns-3 c =
+    let all-in4 = c .before .before .all-in4 in
+    let f = c .before .before .before .before .before .before .before .before .args .f .now in
+    let e = rw rest-is at (c .all-in5 .ensures) in
+    rw (all-in4 .ensures, e) (all-meet Space 8 (length f - 8) f (omega arith))
 
 all-in-requires-6 : tie.Need-all-in-requires-6
 all-in-requires-6 c κs = search needs

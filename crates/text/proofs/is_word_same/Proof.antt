@@ -52,7 +52,11 @@ shared-slice-read-result-16 : tie.Need-shared-slice-read-result-16
 shared-slice-read-result-16 c = search needs
 
 returns : tie.Need-returns
-returns c = word-same (c .before .before .before .before .before .before .before .before .before .before .before .before .before .before .before .before .args .a .now) (c .before .before .before .before .before .before .before .before .before .before .before .before .before .before .before .before .args .b .now) (c .before .before .before .before .before .before .before .before .before .before .before .before .before .before .before .before .pre .0) (c .before .before .before .before .before .before .before .before .before .before .before .before .before .before .before .before .pre .1)
+returns c =
+    let at-start = c .before .before .before .before .before .before .before .before .before .before .before .before .before .before .before
+    .before in
+    let pre = at-start .pre in
+    word-same (at-start .args .a .now) (at-start .args .b .now) (pre .0) (pre .1)
 
 pub is-word-same-spec : {M : Type 1} → statement M
 is-word-same-spec =

@@ -21,7 +21,10 @@ shared-slice-read-if1 : tie.Need-shared-slice-read-if1 Inv-loop μ-loop
 shared-slice-read-if1 c = search needs
 
 returns : tie.Need-returns Inv-loop μ-loop
-returns c = rw (eq-eqb _ _ (c .if1 .taken)) at (turn (memberOf _) _ _ (c .before .before .loop-test .taken) (c .before .before .before .loop .inv .1))
+returns c =
+    let loop-test = c .before .before .loop-test in
+    let inv = c .before .before .before .loop .inv in
+    rw (eq-eqb _ _ (c .if1 .taken)) at (turn (memberOf _) _ _ (loop-test .taken) (inv .1))
 
 add-i : tie.Need-add-i Inv-loop μ-loop
 add-i c = search needs
@@ -31,7 +34,9 @@ loop-less c = search needs
 
 loop-again : tie.Need-loop-again Inv-loop μ-loop
 loop-again c =
-    (search needs, rw (ne-eqb _ _ (c .if1 .left)) at (turn (memberOf _) _ _ (c .before .before .loop-test .taken) (c .before .before .before .loop .inv .1)))
+    let loop-test = c .before .before .loop-test in
+    let inv = c .before .before .before .loop .inv in
+    (search needs, rw (ne-eqb _ _ (c .if1 .left)) at (turn (memberOf _) _ _ (loop-test .taken) (inv .1)))
 
 returns-2 : tie.Need-returns-2 Inv-loop μ-loop
 returns-2 c = ended (memberOf _) _ _ (c .loop-test .left) (c .before .loop .inv .1)

@@ -21,7 +21,10 @@ returns-2 c = rw (← c .before .run .ensures .0, le-leb _ _ (c .before .before 
 
 returns-3 : tie.Need-returns-3
 unfolding spelled runsOf
-returns-3 c = rw (← c .before .before .run .ensures .0, le-leb _ _ (c .before .before .before .if1 .left), le-leb _ _ (c .before .if2 .left), lt-leb _ _ (c .if3 .taken))
+returns-3 c =
+    let run = c .before .before .run in
+    let if1 = c .before .before .before .if1 in
+    rw (← run .ensures .0, le-leb _ _ (if1 .left), le-leb _ _ (c .before .if2 .left), lt-leb _ _ (c .if3 .taken))
 
 sub-is-rest-blank : tie.Need-sub-is-rest-blank
 sub-is-rest-blank c = search needs
@@ -49,12 +52,35 @@ value-requires c κs = search needs
 
 returns-4 : tie.Need-returns-4
 unfolding spelled runsOf
-returns-4 c = rw (← c .before .before .before .before .before .before .before .run .ensures .0, le-leb _ _ (c .before .before .before .before .before .before .before .before .if1 .left), le-leb _ _ (c .before .before .before .before .before .before .if2 .left), le-leb _ _ (c .before .before .before .before .before .if3 .left), sym (rw rest-is at (c .before .before .before .is-rest-blank .ensures)) ∙ c .before .before .if4 .taken)
-    (ap Number (rw sub-zero at (c .value .ensures .0)))
+returns-4 c =
+    let at-if4 = c .before .before in
+    let is-rest-blank = at-if4 .before .is-rest-blank in
+    let at-if3 = at-if4 .before .before .before in
+    let if2 = at-if3 .before .if2 in
+    let run = at-if3 .before .before .run in
+    let if1 = at-if3 .before .before .before .if1 in
+    rw (
+      ← run .ensures .0,
+      le-leb _ _ (if1 .left),
+      le-leb _ _ (if2 .left),
+      le-leb _ _ (at-if3 .if3 .left),
+      sym (rw rest-is at (is-rest-blank .ensures)) ∙ at-if4 .if4 .taken,
+    ) (ap Number (rw sub-zero at (c .value .ensures .0)))
 
 returns-5 : tie.Need-returns-5
 unfolding spelled runsOf
-returns-5 c = rw (← c .before .before .before .before .before .run .ensures .0, le-leb _ _ (c .before .before .before .before .before .before .if1 .left), le-leb _ _ (c .before .before .before .before .if2 .left), le-leb _ _ (c .before .before .before .if3 .left), sym (rw rest-is at (c .before .is-rest-blank .ensures)) ∙ c .if4 .left)
+returns-5 c =
+    let at-if3 = c .before .before .before in
+    let if2 = at-if3 .before .if2 in
+    let run = at-if3 .before .before .run in
+    let if1 = at-if3 .before .before .before .if1 in
+    rw (
+      ← run .ensures .0,
+      le-leb _ _ (if1 .left),
+      le-leb _ _ (if2 .left),
+      le-leb _ _ (at-if3 .if3 .left),
+      sym (rw rest-is at (c .before .is-rest-blank .ensures)) ∙ c .if4 .left,
+    )
 
 pub number-in-spec : {M : Type 1} → statement M
 number-in-spec =

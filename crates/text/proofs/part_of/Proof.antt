@@ -22,7 +22,9 @@ part-result-end : tie.Need-part-result-end
 part-result-end c = search needs
 
 returns : tie.Need-returns
-returns c = part-is (c .before .before .before .args .s .now) (c .before .before .before .args .i) (c .before .before .before .args .n)
+returns c =
+    let at-start = c .before .before .before .args in
+    part-is (at-start .s .now) (at-start .i) (at-start .n)
 
 sub-result-2 : tie.Need-sub-result-2
 sub-result-2 c = search needs
@@ -34,7 +36,11 @@ part-result-end-2 : tie.Need-part-result-end-2
 part-result-end-2 c = search needs
 
 returns-2 : tie.Need-returns-2
-returns-2 c = rest-is (c .before .before .before .args .s .now) (c .before .before .before .args .i) ∙ sym (part-short (c .before .before .before .args .s .now) (c .before .before .before .args .i) (c .before .before .before .args .n) (omega arith))
+returns-2 c =
+    let at-start = c .before .before .before .args in
+    let i = at-start .i in
+    let s = at-start .s .now in
+    rest-is s i ∙ sym (part-short s i (at-start .n) (omega arith))
 
 sub-result-3 : tie.Need-sub-result-3
 sub-result-3 c = search needs
@@ -46,7 +52,9 @@ part-result-end-3 : tie.Need-part-result-end-3
 part-result-end-3 c = search needs
 
 returns-3 : tie.Need-returns-3
-returns-3 c = part-none (c .before .before .args .s .now) (c .before .before .args .i) (c .before .before .args .n) (omega arith)
+returns-3 c =
+    let at-start = c .before .before .args in
+    part-none (at-start .s .now) (at-start .i) (at-start .n) (omega arith)
 
 pub part-of-spec : {M : Type 1} → statement M
 part-of-spec =

@@ -27,13 +27,20 @@ same-length : tie.Need-same-length
 same-length c = search needs
 
 returns : tie.Need-returns
-returns c = rw (c .before .before .copy .ensures .1) (put-whole (c .before .before .before .before .before .before .before .before .args .i) (c .before .before .before .before .before .before .before .before .args .b .now) (c .before .before .before .before .before .before .before .before .args .s .now) (omega arith))
+returns c =
+    let copy = c .before .before .copy in
+    let at-start = c .before .before .before .before .before .before .before .before .args in
+    rw (copy .ensures .1) (put-whole (at-start .i) (at-start .b .now) (at-start .s .now) (omega arith))
 
 returns-2 : tie.Need-returns-2
-returns-2 c = put-not (c .before .before .before .before .args .i) (c .before .before .before .before .args .b .now) (c .before .before .before .before .args .s .now) (omega arith)
+returns-2 c =
+    let at-start = c .before .before .before .before .args in
+    put-not (at-start .i) (at-start .b .now) (at-start .s .now) (omega arith)
 
 returns-3 : tie.Need-returns-3
-returns-3 c = put-not (c .before .before .before .args .i) (c .before .before .before .args .b .now) (c .before .before .before .args .s .now) (omega arith)
+returns-3 c =
+    let at-start = c .before .before .before .args in
+    put-not (at-start .i) (at-start .b .now) (at-start .s .now) (omega arith)
 
 pub put-spec : {M : Type 1} → statement M
 put-spec =

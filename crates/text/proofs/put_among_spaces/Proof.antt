@@ -27,7 +27,13 @@ same-length : tie.Need-same-length
 same-length c = search needs
 
 returns : tie.Need-returns
-returns c = among-spaces (c .before .before .before .before .before .before .before .before .before .args .a) (c .before .before .before .before .before .before .before .before .before .args .w) (c .before .before .before .before .before .before .before .before .before .args .n) (length (c .before .before .before .before .before .before .before .before .before .args .s .now)) (c .before .before .before .before .before .before .fill .last .0) (c .before .before .put-digits .last .0) (c .before .before .before .before .before .before .before .before .before .pre) (c .before .before .before .before .before .before .fill .ensures) (c .before .before .put-digits .ensures)
+returns c =
+    let put-digits = c .before .before .put-digits in
+    let at-fill = c .before .before .before .before .before .before in
+    let fill = at-fill .fill in
+    let at-start = at-fill .before .before .before in
+    among-spaces (at-start .args .a) (at-start .args .w) (at-start .args .n) (length (at-start .args .s .now)) (fill .last .0)
+    (put-digits .last .0) (at-start .pre) (fill .ensures) (put-digits .ensures)
 
 pub put-among-spaces-spec : {M : Type 1} → statement M
 put-among-spaces-spec =

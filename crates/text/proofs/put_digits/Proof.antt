@@ -35,11 +35,12 @@ loop-less : tie.Need-loop-less Inv-loop μ-loop
 loop-less c = search needs
 
 loop-again : tie.Need-loop-again Inv-loop μ-loop
-loop-again c = (
-  omega arith,
-  simp length-set (c .before .loop .inv .1),
-  digits-more (c .before .loop .i) (c .before .loop .m) (c .before .loop .s) (c .before .loop .inv .2) (c .loop-test .taken) (omega arith),
-)
+loop-again c =
+    let at-loop = c .before in (
+      omega arith,
+      simp length-set (at-loop .loop .inv .1),
+      digits-more (at-loop .loop .i) (at-loop .loop .m) (at-loop .loop .s) (at-loop .loop .inv .2) (c .loop-test .taken) (omega arith),
+    )
 
 same-length : tie.Need-same-length Inv-loop μ-loop
 same-length c = search needs

@@ -18,7 +18,11 @@ same-length c = search needs
 
 returns : tie.Need-returns
 unfolding rightDigits
-returns c = rw (← c .before .before .before .before .before .width-of .ensures .0, le-leb _ _ (c .before .before .before .before .if1 .taken)) (c .before .before .put-among-spaces .ensures)
+returns c =
+    let at-put-among-spaces = c .before .before in
+    let if1 = at-put-among-spaces .before .before .if1 in
+    let width-of = at-put-among-spaces .before .before .before .width-of in
+    rw (← width-of .ensures .0, le-leb _ _ (if1 .taken)) (at-put-among-spaces .put-among-spaces .ensures)
 
 returns-2 : tie.Need-returns-2
 unfolding rightDigits

@@ -29,18 +29,16 @@ loop-less : tie.Need-loop-less Inv-loop μ-loop
 loop-less c = search needs
 
 loop-again : tie.Need-loop-again Inv-loop μ-loop
-loop-again c = (
-  search needs,
-  run-more _ _ _ (c .before .before .before .before .loop .inv .1) (c .before .before .before .loop-test .taken)
-      (sym (c .before .in-class .ensures) ∙ c .if1 .taken),
-)
+loop-again c =
+    let loop-test = c .before .before .before .loop-test in
+    let inv = c .before .before .before .before .loop .inv in
+    (search needs, run-more _ _ _ (inv .1) (loop-test .taken) (sym (c .before .in-class .ensures) ∙ c .if1 .taken))
 
 returns : tie.Need-returns Inv-loop μ-loop
-returns c = (
-  run-stop _ _ _ (c .before .before .before .before .loop .inv .1) (c .before .before .before .loop-test .taken)
-      (sym (c .before .in-class .ensures) ∙ c .if1 .left),
-  search needs,
-)
+returns c =
+    let loop-test = c .before .before .before .loop-test in
+    let inv = c .before .before .before .before .loop .inv in
+    (run-stop _ _ _ (inv .1) (loop-test .taken) (sym (c .before .in-class .ensures) ∙ c .if1 .left), search needs)
 
 returns-2 : tie.Need-returns-2 Inv-loop μ-loop
 returns-2 c = (run-all _ _ _ (c .before .loop .inv .1) (c .loop-test .left), search needs)

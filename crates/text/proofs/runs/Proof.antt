@@ -30,7 +30,11 @@ is-rest-blank-requires c κs = search needs
 
 returns-3 : tie.Need-returns-3
 unfolding runsOf
-returns-3 c = rw (← c .before .before .before .before .run .ensures .0, le-leb _ _ (c .before .before .before .if1 .left), le-leb _ _ (c .before .before .if2 .left)) (rw rest-is at (c .is-rest-blank .ensures))
+returns-3 c =
+    let at-if2 = c .before .before in
+    let if1 = at-if2 .before .if1 in
+    let run = at-if2 .before .before .run in
+    rw (← run .ensures .0, le-leb _ _ (if1 .left), le-leb _ _ (at-if2 .if2 .left)) (rw rest-is at (c .is-rest-blank .ensures))
 
 pub runs-spec : {M : Type 1} → statement M
 runs-spec =

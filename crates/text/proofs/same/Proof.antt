@@ -15,7 +15,9 @@ abbrev μ-loop : tie.MeasureT-loop
 μ-loop a b n i₀ i = length a - i
 
 returns : tie.Need-returns Inv-loop μ-loop
-returns c = same-lengths (c .before .before .before .args .a .now) (c .before .before .before .args .b .now) (c .if1 .taken)
+returns c =
+    let at-start = c .before .before .before .args in
+    same-lengths (at-start .a .now) (at-start .b .now) (c .if1 .taken)
 
 loop-holds : tie.Need-loop-holds Inv-loop μ-loop
 loop-holds c = (search needs, search needs, refl)
@@ -33,10 +35,19 @@ loop-less : tie.Need-loop-less Inv-loop μ-loop
 loop-less c = search needs
 
 loop-again : tie.Need-loop-again Inv-loop μ-loop
-loop-again c = (search needs, search needs, same-many (c .before .before .before .before .before .before .before .args .a .now) (c .before .before .before .before .before .before .before .args .b .now) (c .before .before .before .loop .i) (c .before .before .before .loop .inv .2) 8 (sym (c .before .are-words-same .ensures) ∙ c .if2 .taken))
+loop-again c =
+    let loop = c .before .before .before .loop in
+    let at-start = c .before .before .before .before .before .before .before .args in (
+      search needs,
+      search needs,
+      same-many (at-start .a .now) (at-start .b .now) (loop .i) (loop .inv .2) 8 (sym (c .before .are-words-same .ensures) ∙ c .if2 .taken),
+    )
 
 returns-2 : tie.Need-returns-2 Inv-loop μ-loop
-returns-2 c = sym (same-part-not (c .before .before .before .before .before .before .before .args .a .now) (c .before .before .before .before .before .before .before .args .b .now) (c .before .before .before .loop .i) 8 (sym (c .before .are-words-same .ensures) ∙ c .if2 .left))
+returns-2 c =
+    let i = c .before .before .before .loop .i in
+    let at-start = c .before .before .before .before .before .before .before .args in
+    sym (same-part-not (at-start .a .now) (at-start .b .now) i 8 (sym (c .before .are-words-same .ensures) ∙ c .if2 .left))
 
 are-rest-same-requires : tie.Need-are-rest-same-requires Inv-loop μ-loop
 are-rest-same-requires c κs = search needs

@@ -23,10 +23,19 @@ add-t10 : tie.Need-add-t10
 add-t10 c = search needs
 
 returns : tie.Need-returns
-returns c = rw (c .before .digit .ensures .0, c .digit2 .ensures .0) (sym (two-spelled _ _ (sym (c .before .before .before .before .before .in-class .ensures) ∙ c .before .before .before .before .if1 .taken) (sym (c .before .before .before .in-class2 .ensures) ∙ c .before .before .if2 .taken)))
+returns c =
+    let at-if2 = c .before .before in
+    let in-class2 = at-if2 .before .in-class2 in
+    let if1 = at-if2 .before .before .if1 in
+    let in-class = at-if2 .before .before .before .in-class in
+    rw (c .before .digit .ensures .0, c .digit2 .ensures .0)
+    (sym (two-spelled _ _ (sym (in-class .ensures) ∙ if1 .taken) (sym (in-class2 .ensures) ∙ at-if2 .if2 .taken)))
 
 returns-2 : tie.Need-returns-2
-returns-2 c = sym (two-second _ _ (sym (c .before .before .before .in-class .ensures) ∙ c .before .before .if1 .taken) (sym (c .before .in-class2 .ensures) ∙ c .if2 .left))
+returns-2 c =
+    let if1 = c .before .before .if1 in
+    let in-class = c .before .before .before .in-class in
+    sym (two-second _ _ (sym (in-class .ensures) ∙ if1 .taken) (sym (c .before .in-class2 .ensures) ∙ c .if2 .left))
 
 returns-3 : tie.Need-returns-3
 returns-3 c = sym (two-first _ _ (sym (c .before .in-class .ensures) ∙ c .if1 .left))

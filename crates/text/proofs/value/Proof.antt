@@ -37,14 +37,18 @@ loop-less : tie.Need-loop-less Inv-loop μ-loop
 loop-less c = search needs
 
 loop-again : tie.Need-loop-again Inv-loop μ-loop
-loop-again c = (
-  search needs,
-  below-ten _ _ _ (c .before .before .before .loop .inv .1) (c .digit .ensures .1),
-  value-more _ _ _ _ (c .before .before .loop-test .taken) (c .digit .ensures .0) (c .before .before .before .loop .inv .2),
-)
+loop-again c =
+    let loop-test = c .before .before .loop-test in
+    let loop = c .before .before .before .loop in (
+      search needs,
+      below-ten _ _ _ (loop .inv .1) (c .digit .ensures .1),
+      value-more _ _ _ _ (loop-test .taken) (c .digit .ensures .0) (loop .inv .2),
+    )
 
 returns : tie.Need-returns Inv-loop μ-loop
-returns c = (ended (valueFrom _) _ _ (c .loop-test .left) (c .before .loop .inv .2), lt-of-lt-of-le (c .before .loop .inv .1) (small-power _ _ (c .before .loop .inv .0)))
+returns c =
+    let inv = c .before .loop .inv in
+    (ended (valueFrom _) _ _ (c .loop-test .left) (inv .2), lt-of-lt-of-le (inv .1) (small-power _ _ (inv .0)))
 
 pub value-spec : {M : Type 1} → statement M
 value-spec =

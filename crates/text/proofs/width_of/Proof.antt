@@ -24,12 +24,16 @@ loop-less : tie.Need-loop-less Inv-loop μ-loop
 loop-less c = omega arith
 
 loop-again : tie.Need-loop-again Inv-loop μ-loop
-loop-again c = (
-  omega arith,
-  omega (arith, width-room (c .before .loop .w) (c .before .loop .m) (c .before .loop .inv .0) (c .before .loop .inv .1) (c .before .loop .inv .2) (c .loop-test .taken)),
-  width-left (c .before .loop .w) (c .before .loop .m) (c .before .loop .inv .0) (c .before .loop .inv .1) (c .before .loop .inv .2) (c .loop-test .taken),
-  width-more (c .before .loop .w) (c .before .loop .m) (c .before .loop .inv .0) (c .before .loop .inv .1) (c .before .loop .inv .2) (c .loop-test .taken) (c .before .loop .inv .3),
-)
+loop-again c =
+    let at-loop = c .before in
+    let w = at-loop .loop .w in
+    let m = at-loop .loop .m in
+    let inv = at-loop .loop .inv in (
+      omega arith,
+      omega (arith, width-room w m (inv .0) (inv .1) (inv .2) (c .loop-test .taken)),
+      width-left w m (inv .0) (inv .1) (inv .2) (c .loop-test .taken),
+      width-more w m (inv .0) (inv .1) (inv .2) (c .loop-test .taken) (inv .3),
+    )
 
 returns : tie.Need-returns Inv-loop μ-loop
 returns c = (width-end (c .before .loop .w) (c .before .loop .m) (c .loop-test .left) (c .before .loop .inv .3), c .before .loop .inv .1)

@@ -1,6 +1,6 @@
 use mathlib.Core.Path.{refl}
-use Rattle.desk_lines.specs.Served.{marksOf}
-use Rattle.desk_lines.specs.Desk.{emptyDesk}
+use Rattle.desk_rules.specs.Served.{marksOf}
+use Rattle.desk_rules.specs.Desk.{emptyDesk}
 use Rattle.desk_lines.proofs.desk.empty.Tie as tie
 use Rattle.desk_lines.proofs.desk.empty.Statement.{statement}
 

@@ -4,7 +4,7 @@ use native.Mathlib.Omega.{arith}
 use lib.ListN.{length}
 use denote.Ref.{now}
 use borrow.Author.Needs.{needs}
-use Rattle.desk_lines.proofs.DeskLaws.{room, next-ready, ended-read, ended-not}
+use Rattle.desk_rules.proofs.DeskLaws.{room, next-ready, ended-read, ended-not}
 use Rattle.desk_lines.proofs.desk.end_line.Tie as tie
 use Rattle.desk_lines.proofs.desk.end_line.Statement.{statement}
 
@@ -18,7 +18,11 @@ part-is-readable-start : tie.Need-part-is-readable-start
 part-is-readable-start c = search needs
 
 part-is-readable-end : tie.Need-part-is-readable-end
-part-is-readable-end c = let r = room (c .before .before .before .before .before .before .args .m) (length (c .before .before .before .before .before .before .args .collection .now)) (length (c .before .before .before .before .before .before .args .line .now)) (length (c .before .before .before .before .before .before .args .out .now)) (c .before .before .before .before .before .before .pre .0) in omega arith
+part-is-readable-end c =
+    let at-start = c .before .before .before .before .before .before in
+    let r = room (at-start .args .m) (length (at-start .args .collection .now)) (length (at-start .args .line .now))
+    (length (at-start .args .out .now)) (at-start .pre .0) in
+    omega arith
 
 is-readable-requires : tie.Need-is-readable-requires
 is-readable-requires c κs = search needs
@@ -30,10 +34,20 @@ part-read-line-start : tie.Need-part-read-line-start
 part-read-line-start c = search needs
 
 part-read-line-end : tie.Need-part-read-line-end
-part-read-line-end c = let r = room (c .before .before .before .before .before .before .before .before .before .before .before .before .before .args .m) (length (c .before .before .before .before .before .before .before .before .before .before .before .before .before .args .collection .now)) (length (c .before .before .before .before .before .before .before .before .before .before .before .before .before .args .line .now)) (length (c .before .before .before .before .before .before .before .before .before .before .before .before .before .args .out .now)) (c .before .before .before .before .before .before .before .before .before .before .before .before .before .pre .0) in omega arith
+part-read-line-end c =
+    let at-start = c .before .before .before .before .before .before .before .before .before .before .before .before .before in
+    let r = room (at-start .args .m) (length (at-start .args .collection .now)) (length (at-start .args .line .now))
+    (length (at-start .args .out .now)) (at-start .pre .0) in
+    omega arith
 
 read-line-requires : tie.Need-read-line-requires
-read-line-requires c κs = let r = room (c .before .before .before .before .before .before .before .before .before .before .before .before .before .before .args .m) (length (c .before .before .before .before .before .before .before .before .before .before .before .before .before .before .args .collection .now)) (length (c .before .before .before .before .before .before .before .before .before .before .before .before .before .before .args .line .now)) (length (c .before .before .before .before .before .before .before .before .before .before .before .before .before .before .args .out .now)) (c .before .before .before .before .before .before .before .before .before .before .before .before .before .before .pre .0) in (sym (c .before .before .before .before .before .before .is-readable .ensures) ∙ c .before .before .before .before .before .if1 .taken, ((r .collected, r .collection), r .out))
+read-line-requires c κs =
+    let at-if1 = c .before .before .before .before .before in
+    let is-readable = at-if1 .before .is-readable in
+    let at-start = at-if1 .before .before .before .before .before .before .before .before .before in
+    let r = room (at-start .args .m) (length (at-start .args .collection .now)) (length (at-start .args .line .now))
+    (length (at-start .args .out .now)) (at-start .pre .0) in
+    (sym (is-readable .ensures) ∙ at-if1 .if1 .taken, ((r .collected, r .collection), r .out))
 
 same-length : tie.Need-same-length
 same-length c = search needs
@@ -48,16 +62,47 @@ same-length-4 : tie.Need-same-length-4
 same-length-4 c = search needs
 
 returns : tie.Need-returns
-returns c = let e : c .before .before .before .before .before .before .before .before .before .before .before .before .before .before .before .before .before .before .before .before .before .before .before .args .m .typed - 0 ≡ c .before .before .before .before .before .before .before .before .before .before .before .before .before .before .before .before .before .before .before .before .before .before .before .args .m .typed = omega arith in rw (ended-read (c .before .before .before .before .before .before .before .before .before .before .before .before .before .before .before .before .before .before .before .before .before .before .before .args .m) (c .before .before .before .before .before .before .before .before .before .before .before .before .before .before .before .before .before .before .before .before .before .before .before .args .register .now) (c .before .before .before .before .before .before .before .before .before .before .before .before .before .before .before .before .before .before .before .before .before .before .before .args .guide .now) (c .before .before .before .before .before .before .before .before .before .before .before .before .before .before .before .before .before .before .before .before .before .before .before .args .collection .now) (c .before .before .before .before .before .before .before .before .before .before .before .before .before .before .before .before .before .before .before .before .before .before .before .args .line .now) (c .before .before .before .before .before .before .before .before .before .before .before .before .before .before .before .before .before .before .before .before .before .before .before .args .out .now) (rw e at (c .before .before .before .before .before .before .before .before .before .before .before .before .before .before .before .is-readable .ensures)) (c .before .before .before .before .before .before .before .before .before .before .before .before .before .before .if1 .taken)) (rw e at (c .before .before .before .before .before .before .before .before .read-line .ensures (c .before .before .before .before .before .before .before .before .before .before .before .before .before .before .before .before .before .before .before .before .before .before .before .args .line .now) (next-ready (c .before .before .before .before .before .before .before .before .before .before .before .before .before .before .before .before .before .before .before .before .before .before .before .args .m) (length (c .before .before .before .before .before .before .before .before .before .before .before .before .before .before .before .before .before .before .before .before .before .before .before .args .collection .now)) (length (c .before .before .before .before .before .before .before .before .before .before .before .before .before .before .before .before .before .before .before .before .before .before .before .args .line .now)) (length (c .before .before .before .before .before .before .before .before .before .before .before .before .before .before .before .before .before .before .before .before .before .before .before .args .out .now)) (c .before .before .before .before .before .before .before .before .before .before .before .before .before .before .before .before .before .before .before .before .before .before .before .pre .0) (c .before .before .before .before .before .before .before .before .before .before .before .before .before .before .before .before .before .before .before .before .before .before .before .pre .1))))
+returns c =
+    let at-read-line = c .before .before .before .before .before .before .before .before in
+    let at-if1 = at-read-line .before .before .before .before .before .before in
+    let is-readable = at-if1 .before .is-readable in
+    let at-start = at-if1 .before .before .before .before .before .before .before .before .before in
+    let pre = at-start .pre in
+    let m = at-start .args .m in
+    let collection = at-start .args .collection .now in
+    let line = at-start .args .line .now in
+    let out = at-start .args .out .now in
+    let e : m .typed - 0 ≡ m .typed = omega arith in
+    rw (ended-read m (at-start .args .register .now) (at-start .args .guide .now) collection line out (rw e at (is-readable .ensures))
+    (at-if1 .if1 .taken))
+    (rw e at (at-read-line .read-line .ensures line (next-ready m (length collection) (length line) (length out) (pre .0) (pre .1))))
 
 unread-requires : tie.Need-unread-requires
-unread-requires c κs = let r = room (c .before .before .before .before .before .before .before .before .before .before .args .m) (length (c .before .before .before .before .before .before .before .before .before .before .args .collection .now)) (length (c .before .before .before .before .before .before .before .before .before .before .args .line .now)) (length (c .before .before .before .before .before .before .before .before .before .before .args .out .now)) (c .before .before .before .before .before .before .before .before .before .before .pre .0) in r .out
+unread-requires c κs =
+    let at-start = c .before .before .before .before .before .before .before .before .before .before in
+    let r = room (at-start .args .m) (length (at-start .args .collection .now)) (length (at-start .args .line .now))
+    (length (at-start .args .out .now)) (at-start .pre .0) in
+    r .out
 
 same-length-5 : tie.Need-same-length-5
 same-length-5 c = search needs
 
 returns-2 : tie.Need-returns-2
-returns-2 c = let e : c .before .before .before .before .before .before .before .before .before .before .before .before .before .args .m .typed - 0 ≡ c .before .before .before .before .before .before .before .before .before .before .before .before .before .args .m .typed = omega arith in rw (ended-not (c .before .before .before .before .before .before .before .before .before .before .before .before .before .args .m) (c .before .before .before .before .before .before .before .before .before .before .before .before .before .args .register .now) (c .before .before .before .before .before .before .before .before .before .before .before .before .before .args .guide .now) (c .before .before .before .before .before .before .before .before .before .before .before .before .before .args .collection .now) (c .before .before .before .before .before .before .before .before .before .before .before .before .before .args .line .now) (c .before .before .before .before .before .before .before .before .before .before .before .before .before .args .out .now) (rw e at (c .before .before .before .before .before .is-readable .ensures)) (c .before .before .before .before .if1 .left)) (c .before .before .unread .ensures (c .before .before .before .before .before .before .before .before .before .before .before .before .before .args .register .now) (c .before .before .before .before .before .before .before .before .before .before .before .before .before .args .guide .now) (c .before .before .before .before .before .before .before .before .before .before .before .before .before .args .collection .now) (c .before .before .before .before .before .before .before .before .before .before .before .before .before .args .line .now) (next-ready (c .before .before .before .before .before .before .before .before .before .before .before .before .before .args .m) (length (c .before .before .before .before .before .before .before .before .before .before .before .before .before .args .collection .now)) (length (c .before .before .before .before .before .before .before .before .before .before .before .before .before .args .line .now)) (length (c .before .before .before .before .before .before .before .before .before .before .before .before .before .args .out .now)) (c .before .before .before .before .before .before .before .before .before .before .before .before .before .pre .0) (c .before .before .before .before .before .before .before .before .before .before .before .before .before .pre .1)))
+returns-2 c =
+    let unread = c .before .before .unread in
+    let at-if1 = c .before .before .before .before in
+    let is-readable = at-if1 .before .is-readable in
+    let at-start = at-if1 .before .before .before .before .before .before .before .before .before in
+    let pre = at-start .pre in
+    let m = at-start .args .m in
+    let register = at-start .args .register .now in
+    let guide = at-start .args .guide .now in
+    let collection = at-start .args .collection .now in
+    let line = at-start .args .line .now in
+    let out = at-start .args .out .now in
+    let e : m .typed - 0 ≡ m .typed = omega arith in
+    rw (ended-not m register guide collection line out (rw e at (is-readable .ensures)) (at-if1 .if1 .left))
+    (unread .ensures register guide collection line (next-ready m (length collection) (length line) (length out) (pre .0) (pre .1)))
 
 pub end-line-spec : {M : Type 1} → statement M
 end-line-spec =

@@ -1,9 +1,9 @@
 use mathlib.Core.Path.{refl, sym, _∙_}
 use denote.Ref.{now}
 use borrow.Author.Needs.{needs}
-use Rattle.desk_lines.specs.Served.{benchOf}
-use Rattle.desk_lines.specs.Desk.{fed}
-use Rattle.desk_lines.proofs.DeskLaws.{served-ready, served-not}
+use Rattle.desk_rules.specs.Served.{benchOf}
+use Rattle.desk_rules.specs.Desk.{fed}
+use Rattle.desk_rules.proofs.DeskLaws.{served-ready, served-not}
 use Rattle.desk_lines.proofs.desk.feed.Tie as tie
 use Rattle.desk_lines.proofs.desk.feed.Statement.{statement}
 
@@ -11,7 +11,10 @@ is-ready-requires : tie.Need-is-ready-requires
 is-ready-requires c κs = search needs
 
 feed-ready-requires : tie.Need-feed-ready-requires
-feed-ready-requires c κs = sym (c .before .before .before .before .before .before .is-ready .ensures) ∙ c .before .before .before .before .before .if1 .taken
+feed-ready-requires c κs =
+    let at-if1 = c .before .before .before .before .before in
+    let is-ready = at-if1 .before .is-ready in
+    sym (is-ready .ensures) ∙ at-if1 .if1 .taken
 
 same-length : tie.Need-same-length
 same-length c = search needs
@@ -29,10 +32,21 @@ same-length-5 : tie.Need-same-length-5
 same-length-5 c = search needs
 
 returns : tie.Need-returns
-returns c = rw (served-ready (λ d. fed d (c .before .before .before .before .before .before .before .before .before .before .before .before .before .before .before .before .before .before .before .before .before .before .before .args .b)) (c .before .before .before .before .before .before .before .before .before .before .before .before .before .before .before .before .before .before .before .before .before .before .before .args .m) (benchOf (c .before .before .before .before .before .before .before .before .before .before .before .before .before .before .before .before .before .before .before .before .before .before .before .args .register .now) (c .before .before .before .before .before .before .before .before .before .before .before .before .before .before .before .before .before .before .before .before .before .before .before .args .guide .now) (c .before .before .before .before .before .before .before .before .before .before .before .before .before .before .before .before .before .before .before .before .before .before .before .args .collection .now) (c .before .before .before .before .before .before .before .before .before .before .before .before .before .before .before .before .before .before .before .before .before .before .before .args .line .now) (c .before .before .before .before .before .before .before .before .before .before .before .before .before .before .before .before .before .before .before .before .before .before .before .args .out .now)) (c .before .before .before .before .before .before .before .before .before .before .before .before .before .before .before .before .before .is-ready .ensures) (c .before .before .before .before .before .before .before .before .before .before .before .before .before .before .before .before .if1 .taken)) (c .before .before .before .before .before .before .before .before .before .before .feed-ready .ensures)
+returns c =
+    let at-feed-ready = c .before .before .before .before .before .before .before .before .before .before in
+    let at-if1 = at-feed-ready .before .before .before .before .before .before in
+    let is-ready = at-if1 .before .is-ready in
+    let at-start = at-if1 .before .before .before .before .before .before .before .args in
+    rw (served-ready (λ d. fed d (at-start .b)) (at-start .m)
+    (benchOf (at-start .register .now) (at-start .guide .now) (at-start .collection .now) (at-start .line .now) (at-start .out .now))
+    (is-ready .ensures) (at-if1 .if1 .taken)) (at-feed-ready .feed-ready .ensures)
 
 returns-2 : tie.Need-returns-2
-returns-2 c = rw (served-not (λ d. fed d (c .before .before .before .before .before .before .before .args .b)) (c .before .before .before .before .before .before .before .args .m) (benchOf (c .before .before .before .before .before .before .before .args .register .now) (c .before .before .before .before .before .before .before .args .guide .now) (c .before .before .before .before .before .before .before .args .collection .now) (c .before .before .before .before .before .before .before .args .line .now) (c .before .before .before .before .before .before .before .args .out .now)) (c .before .is-ready .ensures) (c .if1 .left)) (refl, (refl, (refl, (refl, (refl, refl)))))
+returns-2 c =
+    let at-start = c .before .before .before .before .before .before .before .args in
+    rw (served-not (λ d. fed d (at-start .b)) (at-start .m)
+    (benchOf (at-start .register .now) (at-start .guide .now) (at-start .collection .now) (at-start .line .now) (at-start .out .now))
+    (c .before .is-ready .ensures) (c .if1 .left)) (refl, (refl, (refl, (refl, (refl, refl)))))
 
 pub feed-spec : {M : Type 1} → statement M
 feed-spec =

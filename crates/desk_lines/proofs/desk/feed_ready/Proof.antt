@@ -3,12 +3,21 @@ use mathlib.Core.List.{[]}
 use lib.ListN.{length}
 use denote.Ref.{now}
 use borrow.Author.Needs.{needs}
-use Rattle.desk_lines.proofs.DeskLaws.{room, said-laid, fed-stopped, fed-newline, fed-typed}
+use Rattle.desk_rules.proofs.DeskLaws.{room, said-laid, fed-stopped, fed-newline, fed-typed}
 use Rattle.desk_lines.proofs.desk.feed_ready.Tie as tie
 use Rattle.desk_lines.proofs.desk.feed_ready.Statement.{statement}
 
 returns : tie.Need-returns
-returns c = rw (fed-stopped (c .before .before .before .before .before .before .before .args .m) (c .before .before .before .before .before .before .before .args .register .now) (c .before .before .before .before .before .before .before .args .guide .now) (c .before .before .before .before .before .before .before .args .collection .now) (c .before .before .before .before .before .before .before .args .line .now) (c .before .before .before .before .before .before .before .args .out .now) (c .before .before .before .before .before .before .before .args .b) (c .if1 .taken)) (said-laid (c .before .before .before .before .before .before .before .args .m) (c .before .before .before .before .before .before .before .args .register .now) (c .before .before .before .before .before .before .before .args .guide .now) (c .before .before .before .before .before .before .before .args .collection .now) (c .before .before .before .before .before .before .before .args .line .now) (c .before .before .before .before .before .before .before .args .out .now) (c .before .before .before .before .before .before .before .pre) [] (c .before .before .before .before .before .before .before .args .out .now) 0 (refl, refl))
+returns c =
+    let at-start = c .before .before .before .before .before .before .before in
+    let m = at-start .args .m in
+    let register = at-start .args .register .now in
+    let guide = at-start .args .guide .now in
+    let collection = at-start .args .collection .now in
+    let line = at-start .args .line .now in
+    let out = at-start .args .out .now in
+    rw (fed-stopped m register guide collection line out (at-start .args .b) (c .if1 .taken))
+    (said-laid m register guide collection line out (at-start .pre) [] out 0 (refl, refl))
 
 end-line-requires : tie.Need-end-line-requires
 end-line-requires c κs = search needs
@@ -29,16 +38,35 @@ same-length-5 : tie.Need-same-length-5
 same-length-5 c = search needs
 
 returns-2 : tie.Need-returns-2
-returns-2 c = rw (fed-newline (c .before .before .before .before .before .before .before .before .before .before .before .before .before .before .before .before .before .before .before .before .before .before .args .m) (c .before .before .before .before .before .before .before .before .before .before .before .before .before .before .before .before .before .before .before .before .before .before .args .register .now) (c .before .before .before .before .before .before .before .before .before .before .before .before .before .before .before .before .before .before .before .before .before .before .args .guide .now) (c .before .before .before .before .before .before .before .before .before .before .before .before .before .before .before .before .before .before .before .before .before .before .args .collection .now) (c .before .before .before .before .before .before .before .before .before .before .before .before .before .before .before .before .before .before .before .before .before .before .args .line .now) (c .before .before .before .before .before .before .before .before .before .before .before .before .before .before .before .before .before .before .before .before .before .before .args .out .now) (c .before .before .before .before .before .before .before .before .before .before .before .before .before .before .before .before .before .before .before .before .before .before .args .b) (c .before .before .before .before .before .before .before .before .before .before .before .before .before .before .before .if1 .left) (c .before .before .before .before .before .before .before .before .before .before .before .before .before .before .if2 .taken)) (c .before .before .before .before .before .before .before .before .end-line .ensures)
+returns-2 c =
+    let at-end-line = c .before .before .before .before .before .before .before .before in
+    let at-if2 = at-end-line .before .before .before .before .before .before in
+    let if1 = at-if2 .before .if1 in
+    let at-start = at-if2 .before .before .before .before .before .before .before .before .args in
+    rw (fed-newline (at-start .m) (at-start .register .now) (at-start .guide .now) (at-start .collection .now) (at-start .line .now)
+    (at-start .out .now) (at-start .b) (if1 .left) (at-if2 .if2 .taken)) (at-end-line .end-line .ensures)
 
 type-byte-requires : tie.Need-type-byte-requires
-type-byte-requires c κs = room (c .before .before .before .before .before .before .before .before .before .args .m) (length (c .before .before .before .before .before .before .before .before .before .args .collection .now)) (length (c .before .before .before .before .before .before .before .before .before .args .line .now)) (length (c .before .before .before .before .before .before .before .before .before .args .out .now)) (c .before .before .before .before .before .before .before .before .before .pre) .line
+type-byte-requires c κs =
+    let at-start = c .before .before .before .before .before .before .before .before .before in
+    room (at-start .args .m) (length (at-start .args .collection .now)) (length (at-start .args .line .now))
+    (length (at-start .args .out .now)) (at-start .pre) .line
 
 same-length-6 : tie.Need-same-length-6
 same-length-6 c = search needs
 
 returns-3 : tie.Need-returns-3
-returns-3 c = rw (fed-typed (c .before .before .before .before .before .before .before .before .before .before .before .before .args .m) (c .before .before .before .before .before .before .before .before .before .before .before .before .args .register .now) (c .before .before .before .before .before .before .before .before .before .before .before .before .args .guide .now) (c .before .before .before .before .before .before .before .before .before .before .before .before .args .collection .now) (c .before .before .before .before .before .before .before .before .before .before .before .before .args .line .now) (c .before .before .before .before .before .before .before .before .before .before .before .before .args .out .now) (c .before .before .before .before .before .before .before .before .before .before .before .before .args .b) (c .before .before .before .before .before .if1 .left) (c .before .before .before .before .if2 .left)) (c .before .before .type-byte .ensures (c .before .before .before .before .before .before .before .before .before .before .before .before .args .register .now) (c .before .before .before .before .before .before .before .before .before .before .before .before .args .guide .now) (c .before .before .before .before .before .before .before .before .before .before .before .before .args .collection .now) (c .before .before .before .before .before .before .before .before .before .before .before .before .args .out .now) (c .before .before .before .before .before .before .before .before .before .before .before .before .pre))
+returns-3 c =
+    let type-byte = c .before .before .type-byte in
+    let at-if2 = c .before .before .before .before in
+    let if1 = at-if2 .before .if1 in
+    let at-start = at-if2 .before .before .before .before .before .before .before .before in
+    let register = at-start .args .register .now in
+    let guide = at-start .args .guide .now in
+    let collection = at-start .args .collection .now in
+    let out = at-start .args .out .now in
+    rw (fed-typed (at-start .args .m) register guide collection (at-start .args .line .now) out (at-start .args .b) (if1 .left)
+    (at-if2 .if2 .left)) (type-byte .ensures register guide collection out (at-start .pre))
 
 pub feed-ready-spec : {M : Type 1} → statement M
 feed-ready-spec =

@@ -2,15 +2,34 @@ use mathlib.Core.Path.{refl}
 use mathlib.Core.List.{[]}
 use denote.Ref.{now}
 use borrow.Author.Needs.{needs}
-use Rattle.desk_lines.proofs.DeskLaws.{said-laid, ended-stopped, ended-empty, ended-line}
+use Rattle.desk_rules.proofs.DeskLaws.{said-laid, ended-stopped, ended-empty, ended-line}
 use Rattle.desk_lines.proofs.desk.finish_ready.Tie as tie
 use Rattle.desk_lines.proofs.desk.finish_ready.Statement.{statement}
 
 returns : tie.Need-returns
-returns c = rw (ended-stopped (c .before .before .before .before .before .before .before .args .m) (c .before .before .before .before .before .before .before .args .register .now) (c .before .before .before .before .before .before .before .args .guide .now) (c .before .before .before .before .before .before .before .args .collection .now) (c .before .before .before .before .before .before .before .args .line .now) (c .before .before .before .before .before .before .before .args .out .now) (c .if1 .taken)) (said-laid (c .before .before .before .before .before .before .before .args .m) (c .before .before .before .before .before .before .before .args .register .now) (c .before .before .before .before .before .before .before .args .guide .now) (c .before .before .before .before .before .before .before .args .collection .now) (c .before .before .before .before .before .before .before .args .line .now) (c .before .before .before .before .before .before .before .args .out .now) (c .before .before .before .before .before .before .before .pre) [] (c .before .before .before .before .before .before .before .args .out .now) 0 (refl, refl))
+returns c =
+    let at-start = c .before .before .before .before .before .before .before in
+    let m = at-start .args .m in
+    let register = at-start .args .register .now in
+    let guide = at-start .args .guide .now in
+    let collection = at-start .args .collection .now in
+    let line = at-start .args .line .now in
+    let out = at-start .args .out .now in
+    rw (ended-stopped m register guide collection line out (c .if1 .taken))
+    (said-laid m register guide collection line out (at-start .pre) [] out 0 (refl, refl))
 
 returns-2 : tie.Need-returns-2
-returns-2 c = rw (ended-empty (c .before .before .before .before .before .before .before .before .before .args .m) (c .before .before .before .before .before .before .before .before .before .args .register .now) (c .before .before .before .before .before .before .before .before .before .args .guide .now) (c .before .before .before .before .before .before .before .before .before .args .collection .now) (c .before .before .before .before .before .before .before .before .before .args .line .now) (c .before .before .before .before .before .before .before .before .before .args .out .now) (c .before .before .if1 .left) (c .if2 .taken)) (said-laid (c .before .before .before .before .before .before .before .before .before .args .m) (c .before .before .before .before .before .before .before .before .before .args .register .now) (c .before .before .before .before .before .before .before .before .before .args .guide .now) (c .before .before .before .before .before .before .before .before .before .args .collection .now) (c .before .before .before .before .before .before .before .before .before .args .line .now) (c .before .before .before .before .before .before .before .before .before .args .out .now) (c .before .before .before .before .before .before .before .before .before .pre) [] (c .before .before .before .before .before .before .before .before .before .args .out .now) 0 (refl, refl))
+returns-2 c =
+    let if1 = c .before .before .if1 in
+    let at-start = c .before .before .before .before .before .before .before .before .before in
+    let m = at-start .args .m in
+    let register = at-start .args .register .now in
+    let guide = at-start .args .guide .now in
+    let collection = at-start .args .collection .now in
+    let line = at-start .args .line .now in
+    let out = at-start .args .out .now in
+    rw (ended-empty m register guide collection line out (if1 .left) (c .if2 .taken))
+    (said-laid m register guide collection line out (at-start .pre) [] out 0 (refl, refl))
 
 end-line-requires : tie.Need-end-line-requires
 end-line-requires c κs = search needs
@@ -28,7 +47,13 @@ same-length-4 : tie.Need-same-length-4
 same-length-4 c = search needs
 
 returns-3 : tie.Need-returns-3
-returns-3 c = rw (ended-line (c .before .before .before .before .before .before .before .before .before .before .before .before .before .before .before .before .before .before .before .before .before .before .args .m) (c .before .before .before .before .before .before .before .before .before .before .before .before .before .before .before .before .before .before .before .before .before .before .args .register .now) (c .before .before .before .before .before .before .before .before .before .before .before .before .before .before .before .before .before .before .before .before .before .before .args .guide .now) (c .before .before .before .before .before .before .before .before .before .before .before .before .before .before .before .before .before .before .before .before .before .before .args .collection .now) (c .before .before .before .before .before .before .before .before .before .before .before .before .before .before .before .before .before .before .before .before .before .before .args .line .now) (c .before .before .before .before .before .before .before .before .before .before .before .before .before .before .before .before .before .before .before .before .before .before .args .out .now) (c .before .before .before .before .before .before .before .before .before .before .before .before .before .before .before .before .before .before .before .before .before .before .pre) (c .before .before .before .before .before .before .before .before .before .before .before .before .before .before .before .if1 .left) (c .before .before .before .before .before .before .before .before .before .before .before .before .before .if2 .left)) (c .before .before .before .before .before .before .before .before .end-line .ensures)
+returns-3 c =
+    let at-end-line = c .before .before .before .before .before .before .before .before in
+    let at-if2 = at-end-line .before .before .before .before .before in
+    let if1 = at-if2 .before .before .if1 in
+    let at-start = at-if2 .before .before .before .before .before .before .before .before .before in
+    rw (ended-line (at-start .args .m) (at-start .args .register .now) (at-start .args .guide .now) (at-start .args .collection .now)
+    (at-start .args .line .now) (at-start .args .out .now) (at-start .pre) (if1 .left) (at-if2 .if2 .left)) (at-end-line .end-line .ensures)
 
 pub finish-ready-spec : {M : Type 1} → statement M
 finish-ready-spec =

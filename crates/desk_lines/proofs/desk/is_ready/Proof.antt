@@ -1,6 +1,6 @@
 use mathlib.Core.Path.{refl}
 use borrow.Author.Needs.{needs}
-use Rattle.desk_lines.specs.Served.{hasRoom}
+use Rattle.desk_rules.specs.Served.{hasRoom}
 use Rattle.desk_lines.proofs.desk.is_ready.Tie as tie
 use Rattle.desk_lines.proofs.desk.is_ready.Statement.{statement}
 

@@ -4,9 +4,9 @@ use native.Mathlib.Omega.{arith}
 use lib.ListN.{length-append, length}
 use denote.Ref.{now}
 use borrow.Author.Needs.{needs}
-use Rattle.desk_lines.specs.Hex.{bytesIn}
-use Rattle.desk_lines.proofs.OverLaws.{first-of, behind-first}
-use Rattle.desk_lines.proofs.HexLaws.{readable-two, bytes-length}
+use Rattle.desk_rules.specs.Hex.{bytesIn}
+use Rattle.desk_rules.proofs.OverLaws.{first-of, behind-first}
+use Rattle.desk_rules.proofs.HexLaws.{readable-two, bytes-length}
 use Rattle.desk_lines.proofs.desk.read_line.Tie as tie
 use Rattle.desk_lines.proofs.desk.read_line.Statement.{statement}
 
@@ -17,7 +17,10 @@ part-bytes-start : tie.Need-part-bytes-start
 part-bytes-start c = search needs
 
 part-bytes-end : tie.Need-part-bytes-end
-part-bytes-end c = let t = readable-two (c .before .before .before .before .before .args .line .now) (c .before .before .before .before .before .pre .0) in omega arith
+part-bytes-end c =
+    let at-start = c .before .before .before .before .before in
+    let t = readable-two (at-start .args .line .now) (at-start .pre .0) in
+    omega arith
 
 decode-requires : tie.Need-decode-requires
 decode-requires c κs = search needs
@@ -26,13 +29,23 @@ array-read-framed : tie.Need-array-read-framed
 array-read-framed c = search needs
 
 sub-framed : tie.Need-sub-framed
-sub-framed c = let t = readable-two (c .before .before .before .before .before .before .before .before .before .before .before .before .args .line .now) (c .before .before .before .before .before .before .before .before .before .before .before .before .pre .0) in omega arith
+sub-framed c =
+    let at-start = c .before .before .before .before .before .before .before .before .before .before .before .before in
+    let t = readable-two (at-start .args .line .now) (at-start .pre .0) in
+    omega arith
 
 part-framed-start : tie.Need-part-framed-start
-part-framed-start c = let t = readable-two (c .before .before .before .before .before .before .before .before .before .before .before .before .before .args .line .now) (c .before .before .before .before .before .before .before .before .before .before .before .before .before .pre .0) in omega arith
+part-framed-start c =
+    let at-start = c .before .before .before .before .before .before .before .before .before .before .before .before .before in
+    let t = readable-two (at-start .args .line .now) (at-start .pre .0) in
+    omega arith
 
 part-framed-end : tie.Need-part-framed-end
-part-framed-end c = let n = ap length (c .before .before .before .before .before .before .decode .ensures) ∙ bytes-length (c .before .before .before .before .before .before .before .before .before .before .before .before .before .args .line .now) in simp length-append (omega arith)
+part-framed-end c =
+    let at-decode = c .before .before .before .before .before .before in
+    let line = at-decode .before .before .before .before .before .before .before .args .line .now in
+    let n = ap length (at-decode .decode .ensures) ∙ bytes-length line in
+    simp length-append (omega arith)
 
 framed-requires : tie.Need-framed-requires
 framed-requires c κs = search needs
@@ -50,8 +63,17 @@ same-length-4 : tie.Need-same-length-4
 same-length-4 c = search needs
 
 returns : tie.Need-returns
-returns c = let t = readable-two (c .before .before .before .before .before .before .before .before .before .before .before .before .before .before .before .before .before .before .before .before .before .before .before .args .line .now) (c .before .before .before .before .before .before .before .before .before .before .before .before .before .before .before .before .before .before .before .before .before .before .before .pre .0) in let n = bytes-length (c .before .before .before .before .before .before .before .before .before .before .before .before .before .before .before .before .before .before .before .before .before .before .before .args .line .now) in let k : 1 ≤ length (c .before .before .before .before .before .before .before .before .before .before .before .before .before .before .before .before .before .before .before .before .before .before .before .args .line .now) / 2 = omega arith in
-    λ l ready. rw (c .before .before .before .before .before .before .before .before .before .before .before .before .before .before .before .before .decode .ensures, first-of (bytesIn (c .before .before .before .before .before .before .before .before .before .before .before .before .before .before .before .before .before .before .before .before .before .before .before .args .line .now)) _ (length (c .before .before .before .before .before .before .before .before .before .before .before .before .before .before .before .before .before .before .before .before .before .before .before .args .line .now) / 2) n k, behind-first (bytesIn (c .before .before .before .before .before .before .before .before .before .before .before .before .before .before .before .before .before .before .before .before .before .before .before .args .line .now)) _ (length (c .before .before .before .before .before .before .before .before .before .before .before .before .before .before .before .before .before .before .before .before .before .before .before .args .line .now) / 2) n k) at (c .before .before .before .before .before .before .before .before .framed .ensures l ready)
+returns c =
+    let at-framed = c .before .before .before .before .before .before .before .before in
+    let at-decode = at-framed .before .before .before .before .before .before .before .before in
+    let at-start = at-decode .before .before .before .before .before .before .before in
+    let line = at-start .args .line .now in
+    let t = readable-two line (at-start .pre .0) in
+    let n = bytes-length line in
+    let k : 1 ≤ length line / 2 = omega arith in
+    λ l ready.
+    rw (at-decode .decode .ensures, first-of (bytesIn line) _ (length line / 2) n k, behind-first (bytesIn line) _ (length line / 2) n k)
+    at (at-framed .framed .ensures l ready)
 
 pub read-line-spec : {M : Type 1} → statement M
 read-line-spec =

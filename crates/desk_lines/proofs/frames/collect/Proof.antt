@@ -1,7 +1,7 @@
 use denote.Ref.{now}
 use borrow.Author.Needs.{needs}
-use Rattle.desk_lines.specs.Desk.{unread}
-use Rattle.desk_lines.proofs.DeskLaws.{collect-laid, collect-not}
+use Rattle.desk_rules.specs.Desk.{unread}
+use Rattle.desk_rules.proofs.DeskLaws.{collect-laid, collect-not}
 use Rattle.desk_lines.proofs.frames.collect.Tie as tie
 use Rattle.desk_lines.proofs.frames.collect.Statement.{statement}
 
@@ -15,7 +15,12 @@ same-length : tie.Need-same-length
 same-length c = search needs
 
 returns : tie.Need-returns
-returns c = λ R G l ready. collect-laid (c .before .before .before .before .before .before .before .before .args .m) R G (c .before .before .before .before .before .before .before .before .args .collection .now) l (c .before .before .before .before .before .before .before .before .args .out .now) ready (c .before .before .before .before .before .before .before .before .args .bytes .now) _ (c .before .before .before .before .if1 .taken) (c .before .before .put .ensures)
+returns c =
+    let at-put = c .before .before in
+    let if1 = at-put .before .before .if1 in
+    let at-start = at-put .before .before .before .before .before .before .args in
+    λ R G l ready. collect-laid (at-start .m) R G (at-start .collection .now) l (at-start .out .now) ready (at-start .bytes .now) _
+    (if1 .taken) (at-put .put .ensures)
 
 unread-requires : tie.Need-unread-requires
 unread-requires c κs = search needs
@@ -24,7 +29,13 @@ same-length-2 : tie.Need-same-length-2
 same-length-2 c = search needs
 
 returns-2 : tie.Need-returns-2
-returns-2 c = λ R G l ready. rw (collect-not (c .before .before .before .before .before .before .before .before .args .m) R G (c .before .before .before .before .before .before .before .before .args .collection .now) l (c .before .before .before .before .before .before .before .before .args .out .now) ready (c .before .before .before .before .before .before .before .before .args .bytes .now) (c .before .before .before .before .if1 .left)) (c .before .before .unread .ensures R G (c .before .before .before .before .before .before .before .before .args .collection .now) l ready)
+returns-2 c =
+    let at-unread = c .before .before in
+    let if1 = at-unread .before .before .if1 in
+    let at-start = at-unread .before .before .before .before .before .before .args in
+    let collection = at-start .collection .now in
+    λ R G l ready. rw (collect-not (at-start .m) R G collection l (at-start .out .now) ready (at-start .bytes .now) (if1 .left))
+    (at-unread .unread .ensures R G collection l ready)
 
 pub collect-spec : {M : Type 1} → statement M
 collect-spec =

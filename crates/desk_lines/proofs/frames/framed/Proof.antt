@@ -1,7 +1,7 @@
 use denote.Ref.{now}
 use borrow.Author.Needs.{needs}
-use Rattle.desk_lines.specs.Served.{benchOf, deskOf}
-use Rattle.desk_lines.proofs.DeskLaws.{framed-collect, framed-look, framed-guide, framed-data, framed-more, framed-other}
+use Rattle.desk_rules.specs.Served.{benchOf, deskOf}
+use Rattle.desk_rules.proofs.DeskLaws.{framed-collect, framed-look, framed-guide, framed-data, framed-more, framed-other}
 use Rattle.desk_lines.proofs.frames.framed.Tie as tie
 use Rattle.desk_lines.proofs.frames.framed.Statement.{statement}
 
@@ -15,7 +15,15 @@ same-length-2 : tie.Need-same-length-2
 same-length-2 c = search needs
 
 returns : tie.Need-returns
-returns c = λ l ready. rw (framed-collect (deskOf (c .before .before .before .before .before .before .before .before .before .before .before .before .before .args .m) (benchOf (c .before .before .before .before .before .before .before .before .before .before .before .before .before .args .register .now) (c .before .before .before .before .before .before .before .before .before .before .before .before .before .args .guide .now) (c .before .before .before .before .before .before .before .before .before .before .before .before .before .args .collection .now) l (c .before .before .before .before .before .before .before .before .before .before .before .before .before .args .out .now))) (c .before .before .before .before .before .before .before .before .before .before .before .before .before .args .code) (c .before .before .before .before .before .before .before .before .before .before .before .before .before .args .bytes .now) (c .before .before .before .before .before .before .before .if1 .taken)) (c .before .before .before .before .collect .ensures (c .before .before .before .before .before .before .before .before .before .before .before .before .before .args .register .now) (c .before .before .before .before .before .before .before .before .before .before .before .before .before .args .guide .now) l ready)
+returns c =
+    let at-collect = c .before .before .before .before in
+    let if1 = at-collect .before .before .before .if1 in
+    let at-start = at-collect .before .before .before .before .before .before .before .before .before .args in
+    let register = at-start .register .now in
+    let guide = at-start .guide .now in
+    λ l ready.
+    rw (framed-collect (deskOf (at-start .m) (benchOf register guide (at-start .collection .now) l (at-start .out .now))) (at-start .code)
+    (at-start .bytes .now) (if1 .taken)) (at-collect .collect .ensures register guide l ready)
 
 look-requires : tie.Need-look-requires
 look-requires c κs = search needs
@@ -27,7 +35,15 @@ same-length-4 : tie.Need-same-length-4
 same-length-4 c = search needs
 
 returns-2 : tie.Need-returns-2
-returns-2 c = λ l ready. rw (framed-look (deskOf (c .before .before .before .before .before .before .before .before .before .before .before .before .args .m) (benchOf (c .before .before .before .before .before .before .before .before .before .before .before .before .args .register .now) (c .before .before .before .before .before .before .before .before .before .before .before .before .args .guide .now) (c .before .before .before .before .before .before .before .before .before .before .before .before .args .collection .now) l (c .before .before .before .before .before .before .before .before .before .before .before .before .args .out .now))) (c .before .before .before .before .before .before .before .before .before .before .before .before .args .code) (c .before .before .before .before .before .before .before .before .before .before .before .before .args .bytes .now) (c .before .before .before .before .before .if2 .taken)) (c .before .before .look .ensures (c .before .before .before .before .before .before .before .before .before .before .before .before .args .guide .now) (c .before .before .before .before .before .before .before .before .before .before .before .before .args .collection .now) l ready)
+returns-2 c =
+    let look = c .before .before .look in
+    let at-if2 = c .before .before .before .before .before in
+    let at-start = at-if2 .before .before .before .before .before .before .before .args in
+    let guide = at-start .guide .now in
+    let collection = at-start .collection .now in
+    λ l ready.
+    rw (framed-look (deskOf (at-start .m) (benchOf (at-start .register .now) guide collection l (at-start .out .now))) (at-start .code)
+    (at-start .bytes .now) (at-if2 .if2 .taken)) (look .ensures guide collection l ready)
 
 unread-requires : tie.Need-unread-requires
 unread-requires c κs = search needs
@@ -36,7 +52,18 @@ same-length-5 : tie.Need-same-length-5
 same-length-5 c = search needs
 
 returns-3 : tie.Need-returns-3
-returns-3 c = λ l ready. rw (framed-more (deskOf (c .before .before .before .before .before .before .before .before .before .before .before .before .args .m) (benchOf (c .before .before .before .before .before .before .before .before .before .before .before .before .args .register .now) (c .before .before .before .before .before .before .before .before .before .before .before .before .args .guide .now) (c .before .before .before .before .before .before .before .before .before .before .before .before .args .collection .now) l (c .before .before .before .before .before .before .before .before .before .before .before .before .args .out .now))) (c .before .before .before .before .before .before .before .before .before .before .before .before .args .code) (c .before .before .before .before .before .before .before .before .before .before .before .before .args .bytes .now) (c .before .before .before .before .before .before .if1 .left) (c .before .before .before .before .before .if2 .left) (c .before .before .before .before .if3 .taken)) (c .before .before .unread .ensures (c .before .before .before .before .before .before .before .before .before .before .before .before .args .register .now) (c .before .before .before .before .before .before .before .before .before .before .before .before .args .guide .now) (c .before .before .before .before .before .before .before .before .before .before .before .before .args .collection .now) l ready)
+returns-3 c =
+    let unread = c .before .before .unread in
+    let at-if3 = c .before .before .before .before in
+    let if2 = at-if3 .before .if2 in
+    let if1 = at-if3 .before .before .if1 in
+    let at-start = at-if3 .before .before .before .before .before .before .before .before .args in
+    let register = at-start .register .now in
+    let guide = at-start .guide .now in
+    let collection = at-start .collection .now in
+    λ l ready.
+    rw (framed-more (deskOf (at-start .m) (benchOf register guide collection l (at-start .out .now))) (at-start .code)
+    (at-start .bytes .now) (if1 .left) (if2 .left) (at-if3 .if3 .taken)) (unread .ensures register guide collection l ready)
 
 take-guide-requires : tie.Need-take-guide-requires
 take-guide-requires c κs = search needs
@@ -54,7 +81,15 @@ same-length-9 : tie.Need-same-length-9
 same-length-9 c = search needs
 
 returns-4 : tie.Need-returns-4
-returns-4 c = λ l ready. rw (framed-guide (deskOf (c .before .before .before .before .before .before .before .before .before .before .before .before .before .before .before .before .before .before .args .m) (benchOf (c .before .before .before .before .before .before .before .before .before .before .before .before .before .before .before .before .before .before .args .register .now) (c .before .before .before .before .before .before .before .before .before .before .before .before .before .before .before .before .before .before .args .guide .now) (c .before .before .before .before .before .before .before .before .before .before .before .before .before .before .before .before .before .before .args .collection .now) l (c .before .before .before .before .before .before .before .before .before .before .before .before .before .before .before .before .before .before .args .out .now))) (c .before .before .before .before .before .before .before .before .before .before .before .before .before .before .before .before .before .before .args .code) (c .before .before .before .before .before .before .before .before .before .before .before .before .before .before .before .before .before .before .args .bytes .now) (c .before .before .before .before .before .before .before .before .before .if4 .taken) (c .before .before .before .before .before .before .before .before .before .before .if3 .left)) (c .before .before .before .before .take-guide .ensures l ready)
+returns-4 c =
+    let at-take-guide = c .before .before .before .before in
+    let at-if4 = at-take-guide .before .before .before .before .before in
+    let if3 = at-if4 .before .if3 in
+    let at-start = at-if4 .before .before .before .before .before .before .before .before .before .args in
+    λ l ready.
+    rw (framed-guide
+    (deskOf (at-start .m) (benchOf (at-start .register .now) (at-start .guide .now) (at-start .collection .now) l (at-start .out .now)))
+    (at-start .code) (at-start .bytes .now) (at-if4 .if4 .taken) (if3 .left)) (at-take-guide .take-guide .ensures l ready)
 
 take-data-requires : tie.Need-take-data-requires
 take-data-requires c κs = search needs
@@ -72,7 +107,15 @@ same-length-13 : tie.Need-same-length-13
 same-length-13 c = search needs
 
 returns-5 : tie.Need-returns-5
-returns-5 c = λ l ready. rw (framed-data (deskOf (c .before .before .before .before .before .before .before .before .before .before .before .before .before .before .before .before .before .before .before .args .m) (benchOf (c .before .before .before .before .before .before .before .before .before .before .before .before .before .before .before .before .before .before .before .args .register .now) (c .before .before .before .before .before .before .before .before .before .before .before .before .before .before .before .before .before .before .before .args .guide .now) (c .before .before .before .before .before .before .before .before .before .before .before .before .before .before .before .before .before .before .before .args .collection .now) l (c .before .before .before .before .before .before .before .before .before .before .before .before .before .before .before .before .before .before .before .args .out .now))) (c .before .before .before .before .before .before .before .before .before .before .before .before .before .before .before .before .before .before .before .args .code) (c .before .before .before .before .before .before .before .before .before .before .before .before .before .before .before .before .before .before .before .args .bytes .now) (c .before .before .before .before .before .before .before .before .before .if5 .taken) (c .before .before .before .before .before .before .before .before .before .before .before .if3 .left)) (c .before .before .before .before .take-data .ensures l ready)
+returns-5 c =
+    let at-take-data = c .before .before .before .before in
+    let at-if5 = at-take-data .before .before .before .before .before in
+    let if3 = at-if5 .before .before .if3 in
+    let at-start = at-if5 .before .before .before .before .before .before .before .before .before .before .args in
+    λ l ready.
+    rw (framed-data
+    (deskOf (at-start .m) (benchOf (at-start .register .now) (at-start .guide .now) (at-start .collection .now) l (at-start .out .now)))
+    (at-start .code) (at-start .bytes .now) (at-if5 .if5 .taken) (if3 .left)) (at-take-data .take-data .ensures l ready)
 
 unread-requires-2 : tie.Need-unread-requires-2
 unread-requires-2 c κs = search needs
@@ -81,7 +124,20 @@ same-length-14 : tie.Need-same-length-14
 same-length-14 c = search needs
 
 returns-6 : tie.Need-returns-6
-returns-6 c = λ l ready. rw (framed-other (deskOf (c .before .before .before .before .before .before .before .before .before .before .before .before .before .before .args .m) (benchOf (c .before .before .before .before .before .before .before .before .before .before .before .before .before .before .args .register .now) (c .before .before .before .before .before .before .before .before .before .before .before .before .before .before .args .guide .now) (c .before .before .before .before .before .before .before .before .before .before .before .before .before .before .args .collection .now) l (c .before .before .before .before .before .before .before .before .before .before .before .before .before .before .args .out .now))) (c .before .before .before .before .before .before .before .before .before .before .before .before .before .before .args .code) (c .before .before .before .before .before .before .before .before .before .before .before .before .before .before .args .bytes .now) (c .before .before .before .before .before .before .before .before .if1 .left) (c .before .before .before .before .before .before .before .if2 .left) (c .before .before .before .before .before .if4 .left) (c .before .before .before .before .if5 .left)) (c .before .before .unread2 .ensures (c .before .before .before .before .before .before .before .before .before .before .before .before .before .before .args .register .now) (c .before .before .before .before .before .before .before .before .before .before .before .before .before .before .args .guide .now) (c .before .before .before .before .before .before .before .before .before .before .before .before .before .before .args .collection .now) l ready)
+returns-6 c =
+    let unread2 = c .before .before .unread2 in
+    let at-if5 = c .before .before .before .before in
+    let if4 = at-if5 .before .if4 in
+    let at-if2 = at-if5 .before .before .before in
+    let if1 = at-if2 .before .if1 in
+    let at-start = at-if2 .before .before .before .before .before .before .before .args in
+    let register = at-start .register .now in
+    let guide = at-start .guide .now in
+    let collection = at-start .collection .now in
+    λ l ready.
+    rw (framed-other (deskOf (at-start .m) (benchOf register guide collection l (at-start .out .now))) (at-start .code)
+    (at-start .bytes .now) (if1 .left) (at-if2 .if2 .left) (if4 .left) (at-if5 .if5 .left))
+    (unread2 .ensures register guide collection l ready)
 
 pub framed-spec : {M : Type 1} → statement M
 framed-spec =

@@ -5,8 +5,8 @@ use lib.ListN.{take}
 use denote.Ref.{now}
 use borrow.Author.Needs.{needs}
 use Rattle.rules.specs.declared.Kind.the-variants.{Data}
-use Rattle.desk_lines.proofs.DeskLaws.{data-laid}
-use Rattle.desk_lines.proofs.TakenLaws.{taken-fits}
+use Rattle.desk_rules.proofs.DeskLaws.{data-laid}
+use Rattle.desk_rules.proofs.TakenLaws.{taken-fits}
 use Rattle.desk_lines.proofs.frames.take_data.Tie as tie
 use Rattle.desk_lines.proofs.frames.take_data.Statement.{statement}
 
@@ -29,7 +29,15 @@ slice-aggregate-taken : tie.Need-slice-aggregate-taken
 slice-aggregate-taken c = search needs
 
 taken-requires : tie.Need-taken-requires
-taken-requires c κs = let e : c .before .before .before .before .before .before .before .before .before .before .before .before .before .args .m .collected - 0 ≡ c .before .before .before .before .before .before .before .before .before .before .before .before .before .args .m .collected = omega arith in let q = rw e at (c .before .before .before .before .before .take-data .ensures) in let h = taken-fits Data (record { register = c .before .before .before .before .before .before .before .before .before .before .before .before .before .args .register .now; guide = c .before .before .before .before .before .before .before .before .before .before .before .before .before .args .guide .now }) (take (c .before .before .before .before .before .before .before .before .before .before .before .before .before .args .m .collected) (c .before .before .before .before .before .before .before .before .before .before .before .before .before .args .collection .now)) (c .before .before .before .before .before .before .before .before .before .before .before .before .before .args .m .register) (q .0) (c .before .before .before .before .before .take-data .kept .1 .1 .1 .0) in (h .0, (h .1, search needs))
+taken-requires c κs =
+    let take-data = c .before .before .before .before .before .take-data in
+    let at-start = c .before .before .before .before .before .before .before .before .before .before .before .before .before .args in
+    let m = at-start .m in
+    let e : m .collected - 0 ≡ m .collected = omega arith in
+    let q = rw e at (take-data .ensures) in
+    let h = taken-fits Data (record { register = at-start .register .now; guide = at-start .guide .now })
+    (take (m .collected) (at-start .collection .now)) (m .register) (q .0) (take-data .kept .1 .1 .1 .0) in
+    (h .0, (h .1, search needs))
 
 emptied-requires : tie.Need-emptied-requires
 emptied-requires c κs = search needs
@@ -41,7 +49,16 @@ same-length-2 : tie.Need-same-length-2
 same-length-2 c = search needs
 
 returns : tie.Need-returns
-returns c = let e : c .before .before .before .before .before .before .before .before .before .before .before .before .before .before .before .before .before .args .m .collected - 0 ≡ c .before .before .before .before .before .before .before .before .before .before .before .before .before .before .before .before .before .args .m .collected = omega arith in let q = rw e at (c .before .before .before .before .before .before .before .before .before .take-data .ensures) in λ l ready. rw (c .emptied .ensures) (data-laid (c .before .before .before .before .before .before .before .before .before .before .before .before .before .before .before .before .before .args .m) (c .before .before .before .before .before .before .before .before .before .before .before .before .before .before .before .before .before .args .register .now) (c .before .before .before .before .before .before .before .before .before .before .before .before .before .before .before .before .before .args .guide .now) (c .before .before .before .before .before .before .before .before .before .before .before .before .before .before .before .before .before .args .collection .now) l (c .before .before .before .before .before .before .before .before .before .before .before .before .before .before .before .before .before .args .out .now) ready _ _ _ _ (c .before .before .before .taken .ensures) _ q)
+returns c =
+    let taken = c .before .before .before .taken in
+    let at-take-data = c .before .before .before .before .before .before .before .before .before in
+    let at-start = at-take-data .before .before .before .before .before .before .before .before .args in
+    let m = at-start .m in
+    let e : m .collected - 0 ≡ m .collected = omega arith in
+    let q = rw e at (at-take-data .take-data .ensures) in
+    λ l ready. rw (c .emptied .ensures)
+    (data-laid m (at-start .register .now) (at-start .guide .now) (at-start .collection .now) l (at-start .out .now) ready _ _ _ _
+    (taken .ensures) _ q)
 
 pub take-data-spec : {M : Type 1} → statement M
 take-data-spec =

@@ -5,9 +5,9 @@ use native.Mathlib.Omega.{arith}
 use lib.ListN.{length, take, drop}
 use denote.Ref.{now}
 use borrow.Author.Needs.{needs}
-use Rattle.desk_lines.specs.Hex.{bytesIn}
-use Rattle.desk_lines.proofs.HexLaws.{bytes-length, bytes-at}
-use Rattle.desk_lines.proofs.OverLaws.{front-length, front-more, front-all}
+use Rattle.desk_rules.specs.Hex.{bytesIn}
+use Rattle.desk_rules.proofs.HexLaws.{bytes-length, bytes-at}
+use Rattle.desk_rules.proofs.OverLaws.{front-length, front-more, front-all}
 use Rattle.desk_lines.proofs.hex.decode.Tie as tie
 use Rattle.desk_lines.proofs.hex.decode.Statement.{statement}
 
@@ -27,7 +27,13 @@ add-b : tie.Need-add-b Inv-loop μ-loop
 add-b c = search needs
 
 shared-slice-read-value : tie.Need-shared-slice-read-value Inv-loop μ-loop
-shared-slice-read-value c = let l = front-length (bytesIn (c .before .before .before .before .before .args .line .now)) (c .before .before .before .before .before .args .bytes .now) (c .before .before .loop .i) (c .before .before .loop .inv .1) (omega (arith, bytes-length (c .before .before .before .before .before .args .line .now))) (c .before .before .loop .inv .0) in omega arith
+shared-slice-read-value c =
+    let at-loop = c .before .before in
+    let at-start = at-loop .before .before .before .args in
+    let line = at-start .line .now in
+    let l = front-length (bytesIn line) (at-start .bytes .now) (at-loop .loop .i) (at-loop .loop .inv .1) (omega (arith, bytes-length line))
+    (at-loop .loop .inv .0) in
+    omega arith
 
 value-requires : tie.Need-value-requires Inv-loop μ-loop
 value-requires c κs = search needs
@@ -36,7 +42,13 @@ mul-bytes : tie.Need-mul-bytes Inv-loop μ-loop
 mul-bytes c = search needs
 
 shared-slice-read-value-2 : tie.Need-shared-slice-read-value-2 Inv-loop μ-loop
-shared-slice-read-value-2 c = let l = front-length (bytesIn (c .before .before .before .before .before .before .before .args .line .now)) (c .before .before .before .before .before .before .before .args .bytes .now) (c .before .before .before .before .loop .i) (c .before .before .before .before .loop .inv .1) (omega (arith, bytes-length (c .before .before .before .before .before .before .before .args .line .now))) (c .before .before .before .before .loop .inv .0) in omega arith
+shared-slice-read-value-2 c =
+    let at-loop = c .before .before .before .before in
+    let at-start = at-loop .before .before .before .args in
+    let line = at-start .line .now in
+    let l = front-length (bytesIn line) (at-start .bytes .now) (at-loop .loop .i) (at-loop .loop .inv .1) (omega (arith, bytes-length line))
+    (at-loop .loop .inv .0) in
+    omega arith
 
 value-requires-2 : tie.Need-value-requires-2 Inv-loop μ-loop
 value-requires-2 c κs = search needs
@@ -51,20 +63,46 @@ add-i : tie.Need-add-i Inv-loop μ-loop
 add-i c = search needs
 
 loop-less : tie.Need-loop-less Inv-loop μ-loop
-loop-less c = let l = front-length (bytesIn (c .before .before .before .before .before .before .before .before .args .line .now)) (c .before .before .before .before .before .before .before .before .args .bytes .now) (c .before .before .before .before .before .loop .i) (c .before .before .before .before .before .loop .inv .1) (omega (arith, bytes-length (c .before .before .before .before .before .before .before .before .args .line .now))) (c .before .before .before .before .before .loop .inv .0) in omega arith
+loop-less c =
+    let at-loop = c .before .before .before .before .before in
+    let at-start = at-loop .before .before .before .args in
+    let line = at-start .line .now in
+    let l = front-length (bytesIn line) (at-start .bytes .now) (at-loop .loop .i) (at-loop .loop .inv .1) (omega (arith, bytes-length line))
+    (at-loop .loop .inv .0) in
+    omega arith
 
 loop-again : tie.Need-loop-again Inv-loop μ-loop
-loop-again c = let l = front-length (bytesIn (c .before .before .before .before .before .before .before .before .args .line .now)) (c .before .before .before .before .before .before .before .before .args .bytes .now) (c .before .before .before .before .before .loop .i) (c .before .before .before .before .before .loop .inv .1) (omega (arith, bytes-length (c .before .before .before .before .before .before .before .before .args .line .now))) (c .before .before .before .before .before .loop .inv .0) in (
-  omega arith,
-  front-more (bytesIn (c .before .before .before .before .before .before .before .before .args .line .now)) (c .before .before .before .before .before .before .before .before .args .bytes .now) (c .before .before .before .before .before .loop .i) (c .before .before .before .before .before .loop .inv .1) _ (omega (arith, bytes-length (c .before .before .before .before .before .before .before .before .args .line .now))) (omega arith)
-      (rw (c .before .before .value .ensures .0, c .value2 .ensures .0) (sym (bytes-at (c .before .before .before .before .before .before .before .before .args .line .now) (c .before .before .before .before .before .loop .i) (omega arith)))),
-)
+loop-again c =
+    let value = c .before .before .value in
+    let at-loop = c .before .before .before .before .before in
+    let i = at-loop .loop .i in
+    let inv = at-loop .loop .inv in
+    let at-start = at-loop .before .before .before .args in
+    let line = at-start .line .now in
+    let bytes = at-start .bytes .now in
+    let l = front-length (bytesIn line) bytes i (inv .1) (omega (arith, bytes-length line)) (inv .0) in (
+      omega arith,
+      front-more (bytesIn line) bytes i (inv .1) _ (omega (arith, bytes-length line)) (omega arith)
+          (rw (value .ensures .0, c .value2 .ensures .0) (sym (bytes-at line i (omega arith)))),
+    )
 
 same-length : tie.Need-same-length Inv-loop μ-loop
-same-length c = front-length (bytesIn (c .before .before .before .before .args .line .now)) (c .before .before .before .before .args .bytes .now) (c .before .loop .i) (c .before .loop .inv .1) (omega (arith, bytes-length (c .before .before .before .before .args .line .now))) (c .before .loop .inv .0)
+same-length c =
+    let at-loop = c .before in
+    let at-start = at-loop .before .before .before .args in
+    let line = at-start .line .now in
+    front-length (bytesIn line) (at-start .bytes .now) (at-loop .loop .i) (at-loop .loop .inv .1) (omega (arith, bytes-length line))
+    (at-loop .loop .inv .0)
 
 returns : tie.Need-returns Inv-loop μ-loop
-returns c = let l = front-length (bytesIn (c .before .before .before .before .args .line .now)) (c .before .before .before .before .args .bytes .now) (c .before .loop .i) (c .before .loop .inv .1) (omega (arith, bytes-length (c .before .before .before .before .args .line .now))) (c .before .loop .inv .0) in front-all (bytesIn (c .before .before .before .before .args .line .now)) (c .before .before .before .before .args .bytes .now) (c .before .loop .i) (c .before .loop .inv .1) (omega (arith, bytes-length (c .before .before .before .before .args .line .now))) (omega arith)
+returns c =
+    let at-loop = c .before in
+    let inv = at-loop .loop .inv in
+    let at-start = at-loop .before .before .before .args in
+    let line = at-start .line .now in
+    let bytes = at-start .bytes .now in
+    let l = front-length (bytesIn line) bytes (at-loop .loop .i) (inv .1) (omega (arith, bytes-length line)) (inv .0) in
+    front-all (bytesIn line) bytes (at-loop .loop .i) (inv .1) (omega (arith, bytes-length line)) (omega arith)
 
 pub decode-spec : {M : Type 1} → statement M
 decode-spec =

@@ -5,8 +5,8 @@ use native.Mathlib.Omega.{arith}
 use lib.ListN.{length-set, length, take, drop}
 use denote.Ref.{now}
 use borrow.Author.Needs.{needs}
-use Rattle.desk_lines.specs.Hex.{lineOf}
-use Rattle.desk_lines.proofs.HexLaws.{encode-length, encode-more, encode-all}
+use Rattle.desk_rules.specs.Hex.{lineOf}
+use Rattle.desk_rules.proofs.HexLaws.{encode-length, encode-more, encode-all}
 use Rattle.desk_lines.proofs.hex.encode.Tie as tie
 use Rattle.desk_lines.proofs.hex.encode.Statement.{statement}
 
@@ -32,13 +32,23 @@ digit-requires : tie.Need-digit-requires Inv-loop μ-loop
 digit-requires c κs = omega (arith, c .shared-slice-known2 .given (c .before .before .loop .i))
 
 slice-write-line : tie.Need-slice-write-line Inv-loop μ-loop
-slice-write-line c = let l = encode-length (c .before .before .before .before .before .before .args .frame .now) (c .before .before .before .before .before .before .args .line .now) (c .before .before .before .before .before .before .pre) (c .before .before .before .loop .i) (c .before .before .before .loop .inv .1) (c .before .before .before .loop .inv .0) in omega arith
+slice-write-line c =
+    let at-loop = c .before .before .before in
+    let at-start = at-loop .before .before .before in
+    let l = encode-length (at-start .args .frame .now) (at-start .args .line .now) (at-start .pre) (at-loop .loop .i)
+    (at-loop .loop .inv .1) (at-loop .loop .inv .0) in
+    omega arith
 
 digit-requires-2 : tie.Need-digit-requires-2 Inv-loop μ-loop
 digit-requires-2 c κs = search needs
 
 slice-write-line-2 : tie.Need-slice-write-line-2 Inv-loop μ-loop
-slice-write-line-2 c = let l = encode-length (c .before .before .before .before .before .before .before .args .frame .now) (c .before .before .before .before .before .before .before .args .line .now) (c .before .before .before .before .before .before .before .pre) (c .before .before .before .before .loop .i) (c .before .before .before .before .loop .inv .1) (c .before .before .before .before .loop .inv .0) in simp length-set (omega arith)
+slice-write-line-2 c =
+    let at-loop = c .before .before .before .before in
+    let at-start = at-loop .before .before .before in
+    let l = encode-length (at-start .args .frame .now) (at-start .args .line .now) (at-start .pre) (at-loop .loop .i)
+    (at-loop .loop .inv .1) (at-loop .loop .inv .0) in
+    simp length-set (omega arith)
 
 add-i : tie.Need-add-i Inv-loop μ-loop
 add-i c = search needs
@@ -47,19 +57,40 @@ loop-less : tie.Need-loop-less Inv-loop μ-loop
 loop-less c = search needs
 
 loop-again : tie.Need-loop-again Inv-loop μ-loop
-loop-again c = (omega arith, encode-more (c .before .before .before .before .before .before .before .args .frame .now) (c .before .before .before .before .before .before .before .args .line .now) (c .before .before .before .before .before .before .before .pre) (c .before .before .before .before .loop .i) (c .before .before .before .before .loop .inv .1) (c .before .before .before .before .loop .inv .0) _ _ (c .before .before .before .loop-test .taken) (c .before .digit .ensures) (c .digit2 .ensures))
+loop-again c =
+    let loop-test = c .before .before .before .loop-test in
+    let at-loop = c .before .before .before .before in
+    let at-start = at-loop .before .before .before in (
+      omega arith,
+      encode-more (at-start .args .frame .now) (at-start .args .line .now) (at-start .pre) (at-loop .loop .i) (at-loop .loop .inv .1)
+          (at-loop .loop .inv .0) _ _ (loop-test .taken) (c .before .digit .ensures) (c .digit2 .ensures),
+    )
 
 mul-last : tie.Need-mul-last Inv-loop μ-loop
 mul-last c = search needs
 
 slice-write-line-3 : tie.Need-slice-write-line-3 Inv-loop μ-loop
-slice-write-line-3 c = let l = encode-length (c .before .before .before .before .args .frame .now) (c .before .before .before .before .args .line .now) (c .before .before .before .before .pre) (c .before .loop .i) (c .before .loop .inv .1) (c .before .loop .inv .0) in omega arith
+slice-write-line-3 c =
+    let at-loop = c .before in
+    let at-start = at-loop .before .before .before in
+    let l = encode-length (at-start .args .frame .now) (at-start .args .line .now) (at-start .pre) (at-loop .loop .i)
+    (at-loop .loop .inv .1) (at-loop .loop .inv .0) in
+    omega arith
 
 same-length : tie.Need-same-length Inv-loop μ-loop
-same-length c = simp length-set (encode-length (c .before .before .before .before .args .frame .now) (c .before .before .before .before .args .line .now) (c .before .before .before .before .pre) (c .before .loop .i) (c .before .loop .inv .1) (c .before .loop .inv .0))
+same-length c =
+    let at-loop = c .before in
+    let at-start = at-loop .before .before .before in
+    simp length-set
+    (encode-length (at-start .args .frame .now) (at-start .args .line .now) (at-start .pre) (at-loop .loop .i) (at-loop .loop .inv .1)
+    (at-loop .loop .inv .0))
 
 returns : tie.Need-returns Inv-loop μ-loop
-returns c = encode-all (c .before .before .before .before .args .frame .now) (c .before .before .before .before .args .line .now) (c .before .before .before .before .pre) (c .before .loop .i) (c .before .loop .inv .1) (c .before .loop .inv .0) (c .loop-test .left)
+returns c =
+    let at-loop = c .before in
+    let at-start = at-loop .before .before .before in
+    encode-all (at-start .args .frame .now) (at-start .args .line .now) (at-start .pre) (at-loop .loop .i) (at-loop .loop .inv .1)
+    (at-loop .loop .inv .0) (c .loop-test .left)
 
 pub encode-spec : {M : Type 1} → statement M
 encode-spec =

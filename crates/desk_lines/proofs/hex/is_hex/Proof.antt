@@ -4,8 +4,8 @@ use native.Mathlib.Omega.{arith}
 use lib.ListN.{length, drop}
 use denote.Ref.{now}
 use borrow.Author.Needs.{needs}
-use Rattle.desk_lines.specs.Hex.{isHex}
-use Rattle.desk_lines.proofs.HexLaws.{hex-more, hex-not, hex-end}
+use Rattle.desk_rules.specs.Hex.{isHex}
+use Rattle.desk_rules.proofs.HexLaws.{hex-more, hex-not, hex-end}
 use Rattle.desk_lines.proofs.hex.is_hex.Tie as tie
 use Rattle.desk_lines.proofs.hex.is_hex.Statement.{statement}
 
@@ -43,13 +43,30 @@ loop-less : tie.Need-loop-less Inv-loop μ-loop
 loop-less c = search needs
 
 loop-again : tie.Need-loop-again Inv-loop μ-loop
-loop-again c = (omega arith, hex-more (c .before .before .before .before .before .before .before .before .args .line .now) (c .before .before .before .before .before .before .loop .i) (c .before .before .before .before .before .before .loop .inv .1) _ _ (c .before .before .before .is-digit .ensures) (c .before .is-digit2 .ensures) (c .before .before .before .before .before .loop-test .taken) (c .if1 .taken))
+loop-again c =
+    let at-is-digit = c .before .before .before in
+    let loop-test = at-is-digit .before .before .loop-test in
+    let at-loop = at-is-digit .before .before .before in
+    let line = at-loop .before .before .args .line .now in (
+      omega arith,
+      hex-more line (at-loop .loop .i) (at-loop .loop .inv .1) _ _ (at-is-digit .is-digit .ensures) (c .before .is-digit2 .ensures)
+          (loop-test .taken) (c .if1 .taken),
+    )
 
 returns : tie.Need-returns Inv-loop μ-loop
-returns c = hex-not (c .before .before .before .before .before .before .before .before .args .line .now) (c .before .before .before .before .before .before .loop .i) (c .before .before .before .before .before .before .loop .inv .1) _ _ (c .before .before .before .is-digit .ensures) (c .before .is-digit2 .ensures) (c .before .before .before .before .before .loop-test .taken) (c .if1 .left)
+returns c =
+    let at-is-digit = c .before .before .before in
+    let loop-test = at-is-digit .before .before .loop-test in
+    let at-loop = at-is-digit .before .before .before in
+    let line = at-loop .before .before .args .line .now in
+    hex-not line (at-loop .loop .i) (at-loop .loop .inv .1) _ _ (at-is-digit .is-digit .ensures) (c .before .is-digit2 .ensures)
+    (loop-test .taken) (c .if1 .left)
 
 returns-2 : tie.Need-returns-2 Inv-loop μ-loop
-returns-2 c = hex-end (c .before .before .before .args .line .now) (c .before .loop .i) (c .before .loop .inv .1) (c .before .loop .inv .0) (c .loop-test .left)
+returns-2 c =
+    let at-loop = c .before in
+    let line = at-loop .before .before .args .line .now in
+    hex-end line (at-loop .loop .i) (at-loop .loop .inv .1) (at-loop .loop .inv .0) (c .loop-test .left)
 
 pub is-hex-spec : {M : Type 1} → statement M
 is-hex-spec =

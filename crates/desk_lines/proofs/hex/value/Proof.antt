@@ -1,5 +1,5 @@
 use native.Mathlib.Omega.{arith}
-use Rattle.desk_lines.proofs.HexLaws.{range-in}
+use Rattle.desk_rules.proofs.HexLaws.{range-in}
 use Rattle.desk_lines.proofs.hex.value.Tie as tie
 use Rattle.desk_lines.proofs.hex.value.Statement.{statement}
 
@@ -19,7 +19,11 @@ sub-result-3 : tie.Need-sub-result-3
 sub-result-3 c = let h = range-in 97 (c .before .before .before .args .b) 102 (c .if3 .taken) in omega arith
 
 returns-3 : tie.Need-returns-3
-returns-3 c = let h = range-in 97 (c .before .before .before .args .b) 102 (c .if3 .taken) in (rw (c .before .before .if1 .left, c .before .if2 .left, c .if3 .taken), omega arith)
+returns-3 c =
+    let if1 = c .before .before .if1 in
+    let b = c .before .before .before .args .b in
+    let h = range-in 97 b 102 (c .if3 .taken) in
+    (rw (if1 .left, c .before .if2 .left, c .if3 .taken), omega arith)
 
 returns-4 : tie.Need-returns-4
 returns-4 c = (rw (c .before .before .if1 .left, c .before .if2 .left, c .if3 .left), omega arith)

@@ -4,9 +4,9 @@ use native.Mathlib.Omega.{arith}
 use lib.ListN.{length-take, length-drop}
 use denote.Ref.{now}
 use borrow.Author.Needs.{needs}
-use Rattle.desk_lines.specs.Served.{over}
-use Rattle.desk_lines.specs.Desk.{answersSaid}
-use Rattle.desk_lines.proofs.SayLaws.{answers-length, answers-room, answers-more}
+use Rattle.desk_rules.specs.Served.{over}
+use Rattle.desk_rules.specs.Desk.{answersSaid}
+use Rattle.desk_rules.proofs.SayLaws.{answers-length, answers-room, answers-more}
 use Rattle.desk_lines.proofs.say.answers.Tie as tie
 use Rattle.desk_lines.proofs.say.answers.Statement.{statement}
 
@@ -33,13 +33,19 @@ low-requires : tie.Need-low-requires Inv-loop μ-loop
 low-requires c κs = search needs
 
 shared-slice-read-t14 : tie.Need-shared-slice-read-t14 Inv-loop μ-loop
-shared-slice-read-t14 c = omega (arith, c .before .before .before .before .before .before .before .pre .0 .1)
+shared-slice-read-t14 c =
+    let pre = c .before .before .before .before .before .before .before .pre in
+    omega (arith, pre .0 .1)
 
 mul-a : tie.Need-mul-a Inv-loop μ-loop
-mul-a c = omega (arith, c .before .before .before .before .before .before .before .pre .0 .0)
+mul-a c =
+    let pre = c .before .before .before .before .before .before .before .pre in
+    omega (arith, pre .0 .0)
 
 add-e : tie.Need-add-e Inv-loop μ-loop
-add-e c = omega (arith, c .before .before .before .before .before .before .before .pre .0 .0)
+add-e c =
+    let pre = c .before .before .before .before .before .before .before .pre in
+    omega (arith, pre .0 .0)
 
 slice-aggregate-encode : tie.Need-slice-aggregate-encode Inv-loop μ-loop
 slice-aggregate-encode c = search needs
@@ -51,28 +57,60 @@ part-encode-start : tie.Need-part-encode-start Inv-loop μ-loop
 part-encode-start c = search needs
 
 part-encode-end : tie.Need-part-encode-end Inv-loop μ-loop
-part-encode-end c = let l = answers-room (c .before .before .before .before .before .before .before .before .args .given .now) (c .before .before .before .before .before .before .before .before .args .out .now) (c .before .before .before .before .before .loop .i) (c .before .before .before .before .before .loop .inv .1) (omega (arith, c .before .before .before .before .before .loop .inv .0, c .before .before .before .before .before .before .before .before .pre .1)) in omega (arith, c .before .before .before .before .before .before .before .before .pre .1)
+part-encode-end c =
+    let at-loop = c .before .before .before .before .before in
+    let at-start = at-loop .before .before .before in
+    let pre = at-start .pre in
+    let l = answers-room (at-start .args .given .now) (at-start .args .out .now) (at-loop .loop .i) (at-loop .loop .inv .1)
+    (omega (arith, at-loop .loop .inv .0, pre .1)) in
+    omega (arith, pre .1)
 
 encode-requires : tie.Need-encode-requires Inv-loop μ-loop
-encode-requires c κs = let l = answers-room (c .before .before .before .before .before .before .before .before .before .args .given .now) (c .before .before .before .before .before .before .before .before .before .args .out .now) (c .before .before .before .before .before .before .loop .i) (c .before .before .before .before .before .before .loop .inv .1) (omega (arith, c .before .before .before .before .before .before .loop .inv .0, c .before .before .before .before .before .before .before .before .before .pre .1)) in simp (length-take, length-drop) (omega (arith, c .before .before .before .before .before .before .before .before .before .pre .1))
+encode-requires c κs =
+    let at-loop = c .before .before .before .before .before .before in
+    let at-start = at-loop .before .before .before in
+    let pre = at-start .pre in
+    let l = answers-room (at-start .args .given .now) (at-start .args .out .now) (at-loop .loop .i) (at-loop .loop .inv .1)
+    (omega (arith, at-loop .loop .inv .0, pre .1)) in
+    simp (length-take, length-drop) (omega (arith, pre .1))
 
 add-i : tie.Need-add-i Inv-loop μ-loop
-add-i c = omega (arith, c .before .before .before .before .before .before .before .before .before .before .before .before .pre .0 .0)
+add-i c =
+    let pre = c .before .before .before .before .before .before .before .before .before .before .before .before .pre in
+    omega (arith, pre .0 .0)
 
 loop-less : tie.Need-loop-less Inv-loop μ-loop
 loop-less c = search needs
 
 loop-again : tie.Need-loop-again Inv-loop μ-loop
-loop-again c = (omega arith, answers-more (c .before .before .before .before .before .before .before .before .before .before .before .before .args .given .now) (c .before .before .before .before .before .before .before .before .before .before .before .before .args .out .now) (c .before .before .before .before .before .before .before .before .before .loop .i) (c .before .before .before .before .before .before .before .before .before .loop .inv .1) _ (rw (c .before .before .before .before .before .before .before .high .ensures, c .before .before .before .before .before .before .low .ensures) at (c .before .before .encode .ensures)))
+loop-again c =
+    let encode = c .before .before .encode in
+    let at-low = c .before .before .before .before .before .before in
+    let high = at-low .before .high in
+    let at-loop = at-low .before .before .before in
+    let at-start = at-loop .before .before .before .args in (
+      omega arith,
+      answers-more (at-start .given .now) (at-start .out .now) (at-loop .loop .i) (at-loop .loop .inv .1) _
+          (rw (high .ensures, at-low .low .ensures) at (encode .ensures)),
+    )
 
 mul-result : tie.Need-mul-result Inv-loop μ-loop
 mul-result c = omega (arith, c .before .before .before .before .pre .0 .0)
 
 same-length : tie.Need-same-length Inv-loop μ-loop
-same-length c = answers-room (c .before .before .before .before .args .given .now) (c .before .before .before .before .args .out .now) (c .before .loop .i) (c .before .loop .inv .1) (omega (arith, c .before .loop .inv .0, c .before .before .before .before .pre .1))
+same-length c =
+    let at-loop = c .before in
+    let at-start = at-loop .before .before .before in
+    answers-room (at-start .args .given .now) (at-start .args .out .now) (at-loop .loop .i) (at-loop .loop .inv .1)
+    (omega (arith, at-loop .loop .inv .0, at-start .pre .1))
 
 returns : tie.Need-returns Inv-loop μ-loop
-returns c = let e : c .before .loop .i ≡ c .before .before .before .before .args .n = omega arith in (sym (answers-length (c .before .before .before .before .args .given .now) (c .before .before .before .before .args .n)), rw (← e) (c .before .loop .inv .1))
+returns c =
+    let at-loop = c .before in
+    let at-start = at-loop .before .before .before .args in
+    let n = at-start .n in
+    let e : at-loop .loop .i ≡ n = omega arith in
+    (sym (answers-length (at-start .given .now) n), rw (← e) (at-loop .loop .inv .1))
 
 pub answers-spec : {M : Type 1} → statement M
 answers-spec =

@@ -24,7 +24,13 @@ same-length : tie.Need-same-length
 same-length c = search needs
 
 returns : tie.Need-returns
-returns c = rw (c .before .before .before .before .before .before .before .before .high .ensures, c .before .before .before .before .before .before .before .low .ensures, c .before .before .before .before .before .before .high2 .ensures, c .before .before .before .before .before .low2 .ensures) at (c .before .before .line .ensures)
+returns c =
+    let line = c .before .before .line in
+    let at-low2 = c .before .before .before .before .before in
+    let high2 = at-low2 .before .high2 in
+    let low = at-low2 .before .before .low in
+    let high = at-low2 .before .before .before .high in
+    rw (high .ensures, low .ensures, high2 .ensures, at-low2 .low2 .ensures) at (line .ensures)
 
 pub counts-spec : {M : Type 1} → statement M
 counts-spec =

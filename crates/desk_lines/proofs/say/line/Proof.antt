@@ -3,9 +3,9 @@ use Prim.Native.Nat.{_+_, _*_}
 use lib.ListN.{length}
 use denote.Ref.{now}
 use borrow.Author.Needs.{needs}
-use Rattle.desk_lines.specs.Hex.{lineOf}
-use Rattle.desk_lines.proofs.OverLaws.{over-part}
-use Rattle.desk_lines.proofs.HexLaws.{line-length}
+use Rattle.desk_rules.specs.Hex.{lineOf}
+use Rattle.desk_rules.proofs.OverLaws.{over-part}
+use Rattle.desk_rules.proofs.HexLaws.{line-length}
 use Rattle.desk_lines.proofs.say.line.Tie as tie
 use Rattle.desk_lines.proofs.say.line.Statement.{statement}
 
@@ -31,7 +31,13 @@ same-length : tie.Need-same-length
 same-length c = search needs
 
 returns : tie.Need-returns
-returns c = (sym (line-length (c .before .before .before .before .before .before .args .frame .now)), rw (c .before .before .encode .ensures) (over-part (lineOf (c .before .before .before .before .before .before .args .frame .now)) (c .before .before .before .before .before .before .args .out .now) (2 * length (c .before .before .before .before .before .before .args .frame .now) + 1) (sym (line-length (c .before .before .before .before .before .before .args .frame .now)))))
+returns c =
+    let encode = c .before .before .encode in
+    let at-start = c .before .before .before .before .before .before .args in
+    let frame = at-start .frame .now in (
+      sym (line-length frame),
+      rw (encode .ensures) (over-part (lineOf frame) (at-start .out .now) (2 * length frame + 1) (sym (line-length frame))),
+    )
 
 pub line-spec : {M : Type 1} → statement M
 line-spec =

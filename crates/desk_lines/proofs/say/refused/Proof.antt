@@ -30,7 +30,17 @@ same-length : tie.Need-same-length
 same-length c = search needs
 
 returns : tie.Need-returns
-returns c = let e : c .before .before .before .before .before .before .before .before .before .before .before .args .t .refusal % 256 ≡ c .before .before .before .before .before .before .before .before .before .before .before .args .t .refusal = omega (arith, c .before .before .before .before .before .before .before .before .before .before .before .pre .0) in rw (c .before .before .before .before .before .before .before .before .before .low .ensures, e, c .before .before .before .before .before .before .before .before .high .ensures, c .before .before .before .before .before .before .before .low2 .ensures, c .before .before .before .before .before .before .high2 .ensures, c .before .before .before .before .before .low3 .ensures) at (c .before .before .line .ensures)
+returns c =
+    let line = c .before .before .line in
+    let at-low3 = c .before .before .before .before .before in
+    let high2 = at-low3 .before .high2 in
+    let at-low2 = at-low3 .before .before in
+    let high = at-low2 .before .high in
+    let low = at-low2 .before .before .low in
+    let at-start = at-low2 .before .before .before .before in
+    let t = at-start .args .t in
+    let e : t .refusal % 256 ≡ t .refusal = omega (arith, at-start .pre .0) in
+    rw (low .ensures, e, high .ensures, at-low2 .low2 .ensures, high2 .ensures, at-low3 .low3 .ensures) at (line .ensures)
 
 pub refused-spec : {M : Type 1} → statement M
 refused-spec =

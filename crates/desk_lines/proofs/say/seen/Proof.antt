@@ -3,7 +3,7 @@ use Prim.Native.Nat.{_%_}
 use native.Mathlib.Omega.{arith}
 use borrow.Author.Tests.{eq-eqb, ne-eqb}
 use borrow.Author.Needs.{needs}
-use Rattle.desk_lines.specs.Desk.{lookSaid}
+use Rattle.desk_rules.specs.Desk.{lookSaid}
 use Rattle.desk_lines.proofs.say.seen.Tie as tie
 use Rattle.desk_lines.proofs.say.seen.Statement.{statement}
 
@@ -18,7 +18,10 @@ same-length c = search needs
 
 returns : tie.Need-returns
 unfolding lookSaid
-returns c = rw (ne-eqb _ _ (c .before .before .before .before .before .if1 .taken)) (c .before .before .line .ensures)
+returns c =
+    let line = c .before .before .line in
+    let if1 = c .before .before .before .before .before .if1 in
+    rw (ne-eqb _ _ (if1 .taken)) (line .ensures)
 
 low-requires : tie.Need-low-requires
 low-requires c κs = search needs
@@ -40,7 +43,16 @@ same-length-2 c = search needs
 
 returns-2 : tie.Need-returns-2
 unfolding lookSaid
-returns-2 c = let e : c .before .before .before .before .before .before .before .before .before .before .before .args .s .state % 256 ≡ c .before .before .before .before .before .before .before .before .before .before .before .args .s .state = omega (arith, c .before .before .before .before .before .before .before .before .before .before .before .pre .0) in rw (eq-eqb _ _ (c .before .before .before .before .before .before .before .before .if1 .left)) (rw (c .before .before .before .before .before .before .before .low .ensures, e, c .before .before .before .before .before .before .high .ensures, c .before .before .before .before .before .low2 .ensures) at (c .before .before .line2 .ensures))
+returns-2 c =
+    let line2 = c .before .before .line2 in
+    let at-low2 = c .before .before .before .before .before in
+    let high = at-low2 .before .high in
+    let at-low = at-low2 .before .before in
+    let if1 = at-low .before .if1 in
+    let at-start = at-low .before .before .before .before in
+    let s = at-start .args .s in
+    let e : s .state % 256 ≡ s .state = omega (arith, at-start .pre .0) in
+    rw (eq-eqb _ _ (if1 .left)) (rw (at-low .low .ensures, e, high .ensures, at-low2 .low2 .ensures) at (line2 .ensures))
 
 pub seen-spec : {M : Type 1} → statement M
 seen-spec =

@@ -18,7 +18,11 @@ same-length : tie.Need-same-length
 same-length c = search needs
 
 returns : tie.Need-returns
-returns c = rw (c .before .before .before .before .before .before .high .ensures, c .before .before .before .before .before .low .ensures) at (c .before .before .line .ensures)
+returns c =
+    let line = c .before .before .line in
+    let at-low = c .before .before .before .before .before in
+    let high = at-low .before .high in
+    rw (high .ensures, at-low .low .ensures) at (line .ensures)
 
 pub unread-spec : {M : Type 1} → statement M
 unread-spec =

@@ -9,7 +9,10 @@ is-there-requires : tie.Need-is-there-requires
 is-there-requires c κs = search needs
 
 add-e : tie.Need-add-e
-add-e c = let l = there-le (c .before .before .before .args .s .now) (c .before .before .before .args .i) (c .before .before .before .args .n) (sym (c .before .is-there .ensures) ∙ c .if1 .taken) in search needs
+add-e c =
+    let at-start = c .before .before .before .args in
+    let l = there-le (at-start .s .now) (at-start .i) (at-start .n) (sym (c .before .is-there .ensures) ∙ c .if1 .taken) in
+    search needs
 
 sub-all-in : tie.Need-sub-all-in
 sub-all-in c = search needs
@@ -18,7 +21,10 @@ part-all-in-start : tie.Need-part-all-in-start
 part-all-in-start c = search needs
 
 part-all-in-end : tie.Need-part-all-in-end
-part-all-in-end c = let l = there-le (c .before .before .before .args .s .now) (c .before .before .before .args .i) (c .before .before .before .args .n) (sym (c .before .is-there .ensures) ∙ c .if1 .taken) in search needs
+part-all-in-end c =
+    let at-start = c .before .before .before .args in
+    let l = there-le (at-start .s .now) (at-start .i) (at-start .n) (sym (c .before .is-there .ensures) ∙ c .if1 .taken) in
+    search needs
 
 all-in-requires : tie.Need-all-in-requires
 all-in-requires c κs = search needs

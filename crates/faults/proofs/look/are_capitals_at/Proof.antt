@@ -10,7 +10,10 @@ is-there-requires : tie.Need-is-there-requires
 is-there-requires c κs = search needs
 
 add-e : tie.Need-add-e
-add-e c = let l = there-le (c .before .before .before .args .s .now) (c .before .before .before .args .i) (c .before .before .before .args .n) (sym (c .before .is-there .ensures) ∙ c .if1 .taken) in search needs
+add-e c =
+    let at-start = c .before .before .before .args in
+    let l = there-le (at-start .s .now) (at-start .i) (at-start .n) (sym (c .before .is-there .ensures) ∙ c .if1 .taken) in
+    search needs
 
 sub-all-in : tie.Need-sub-all-in
 sub-all-in c = search needs
@@ -19,13 +22,21 @@ part-all-in-start : tie.Need-part-all-in-start
 part-all-in-start c = search needs
 
 part-all-in-end : tie.Need-part-all-in-end
-part-all-in-end c = let l = there-le (c .before .before .before .args .s .now) (c .before .before .before .args .i) (c .before .before .before .args .n) (sym (c .before .is-there .ensures) ∙ c .if1 .taken) in search needs
+part-all-in-end c =
+    let at-start = c .before .before .before .args in
+    let l = there-le (at-start .s .now) (at-start .i) (at-start .n) (sym (c .before .is-there .ensures) ∙ c .if1 .taken) in
+    search needs
 
 all-in-requires : tie.Need-all-in-requires
 all-in-requires c κs = search needs
 
 returns : tie.Need-returns
-returns c = λ h. capitals-all (c .before .before .before .before .before .before .args .s .now) (c .before .before .before .before .before .before .args .i) (c .before .before .before .before .before .before .args .n) (sym (c .before .before .before .before .is-there .ensures) ∙ c .before .before .before .if1 .taken) (c .before .before .before .before .before .before .args .lax) (sym (rw part-is at (c .before .all-in .ensures)) ∙ c .if2 .taken)
+returns c =
+    let at-if1 = c .before .before .before in
+    let is-there = at-if1 .before .is-there in
+    let at-start = at-if1 .before .before .before .args in
+    λ h. capitals-all (at-start .s .now) (at-start .i) (at-start .n) (sym (is-there .ensures) ∙ at-if1 .if1 .taken) (at-start .lax)
+    (sym (rw part-is at (c .before .all-in .ensures)) ∙ c .if2 .taken)
 
 sub-is-spared : tie.Need-sub-is-spared
 sub-is-spared c = search needs
@@ -34,13 +45,23 @@ part-is-spared-start : tie.Need-part-is-spared-start
 part-is-spared-start c = search needs
 
 part-is-spared-end : tie.Need-part-is-spared-end
-part-is-spared-end c = let l = there-le (c .before .before .before .before .before .before .args .s .now) (c .before .before .before .before .before .before .args .i) (c .before .before .before .before .before .before .args .n) (sym (c .before .before .before .before .is-there .ensures) ∙ c .before .before .before .if1 .taken) in search needs
+part-is-spared-end c =
+    let if1 = c .before .before .before .if1 in
+    let is-there = c .before .before .before .before .is-there in
+    let at-start = c .before .before .before .before .before .before .args in
+    let l = there-le (at-start .s .now) (at-start .i) (at-start .n) (sym (is-there .ensures) ∙ if1 .taken) in
+    search needs
 
 is-spared-requires : tie.Need-is-spared-requires
 is-spared-requires c κs = search needs
 
 returns-2 : tie.Need-returns-2
-returns-2 c = λ h. capitals-spared (c .before .before .before .before .before .before .before .before .args .s .now) (c .before .before .before .before .before .before .before .before .args .i) (c .before .before .before .before .before .before .before .before .args .n) (sym (c .before .before .before .before .before .before .is-there .ensures) ∙ c .before .before .before .before .before .if1 .taken) (c .before .before .before .before .before .before .before .before .args .lax) (sym (rw part-is at (c .is-spared .ensures)) ∙ h)
+returns-2 c =
+    let at-if1 = c .before .before .before .before .before in
+    let is-there = at-if1 .before .is-there in
+    let at-start = at-if1 .before .before .before .args in
+    λ h. capitals-spared (at-start .s .now) (at-start .i) (at-start .n) (sym (is-there .ensures) ∙ at-if1 .if1 .taken) (at-start .lax)
+    (sym (rw part-is at (c .is-spared .ensures)) ∙ h)
 
 returns-3 : tie.Need-returns-3
 returns-3 c = never

@@ -17,7 +17,12 @@ are-four-blank-requires-2 : tie.Need-are-four-blank-requires-2
 are-four-blank-requires-2 c κs = search needs
 
 returns : tie.Need-returns
-returns c = λ h. let a = and-left (c .before .are-four-blank .result) (c .are-four-blank2 .result) h in let b = and-right (c .before .are-four-blank .result) (c .are-four-blank2 .result) h in all-ends Space (c .before .before .before .args .i) 8 4 (c .before .before .before .args .s .now) (omega arith) (omega arith) (sym (c .before .are-four-blank .ensures) ∙ a) (sym (c .are-four-blank2 .ensures) ∙ b)
+returns c =
+    let are-four-blank = c .before .are-four-blank in
+    let at-start = c .before .before .before .args in
+    λ h. let a = and-left (are-four-blank .result) (c .are-four-blank2 .result) h in let b = and-right (are-four-blank .result)
+    (c .are-four-blank2 .result) h in all-ends Space (at-start .i) 8 4 (at-start .s .now) (omega arith) (omega arith)
+    (sym (are-four-blank .ensures) ∙ a) (sym (c .are-four-blank2 .ensures) ∙ b)
 
 pub are-eight-blank-spec : {M : Type 1} → statement M
 are-eight-blank-spec =

@@ -28,7 +28,9 @@ are-spaces-requires : tie.Need-are-spaces-requires
 are-spaces-requires c κs = search needs
 
 returns : tie.Need-returns
-returns c = rw (four-part (c .before .before .before .before .before .before .args .s .now) (c .before .before .before .before .before .before .args .i) (c .before .before .before .before .before .before .pre)) (c .are-spaces .ensures)
+returns c =
+    let at-start = c .before .before .before .before .before .before in
+    rw (four-part (at-start .args .s .now) (at-start .args .i) (at-start .pre)) (c .are-spaces .ensures)
 
 pub are-four-blank-spec : {M : Type 1} → statement M
 are-four-blank-spec =

@@ -9,7 +9,10 @@ is-there-requires : tie.Need-is-there-requires
 is-there-requires c κs = search needs
 
 add-e : tie.Need-add-e
-add-e c = let l = there-le (c .before .before .before .args .s .now) (c .before .before .before .args .i) (c .before .before .before .args .n) (sym (c .before .is-there .ensures) ∙ c .if1 .taken) in search needs
+add-e c =
+    let at-start = c .before .before .before .args in
+    let l = there-le (at-start .s .now) (at-start .i) (at-start .n) (sym (c .before .is-there .ensures) ∙ c .if1 .taken) in
+    search needs
 
 sub-runs : tie.Need-sub-runs
 sub-runs c = search needs
@@ -18,7 +21,10 @@ part-runs-start : tie.Need-part-runs-start
 part-runs-start c = search needs
 
 part-runs-end : tie.Need-part-runs-end
-part-runs-end c = let l = there-le (c .before .before .before .args .s .now) (c .before .before .before .args .i) (c .before .before .before .args .n) (sym (c .before .is-there .ensures) ∙ c .if1 .taken) in search needs
+part-runs-end c =
+    let at-start = c .before .before .before .args in
+    let l = there-le (at-start .s .now) (at-start .i) (at-start .n) (sym (c .before .is-there .ensures) ∙ c .if1 .taken) in
+    search needs
 
 runs-requires : tie.Need-runs-requires
 runs-requires c κs = search needs

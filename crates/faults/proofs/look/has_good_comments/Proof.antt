@@ -31,7 +31,26 @@ is-middling-text-at-requires-2 c κs = search needs
 
 returns : tie.Need-returns
 unfolding keptAt keeps keepsOther
-returns c = λ h lax p. let s = c .before .before .before .before .before .before .before .before .before .before .before .before .before .before .args .rec .now in field-kept dataRecord 24 lax s refl p (c .before .before .before .before .before .before .before .before .before .before .before .before .is-short-text-at .ensures (c .before .before .before .before .before .before .before .before .before .before .before .if1 .taken) lax) ∙ field-kept dataRecord 25 lax s refl p (c .before .before .before .before .before .before .before .before .before .before .is-short-text-at2 .ensures (c .before .before .before .before .before .before .before .before .before .if2 .taken) lax) ∙ field-kept dataRecord 26 lax s refl p (rw (sym (c .before .before .before .before .before .before .before .before .is-there .ensures) ∙ (c .before .before .before .before .before .before .before .if3 .taken))) ∙ field-kept dataRecord 27 lax s refl p (c .before .before .before .before .before .before .is-text-at .ensures (c .before .before .before .before .before .if4 .taken) lax) ∙ field-kept dataRecord 28 lax s refl p (c .before .before .before .before .is-text-at2 .ensures (c .before .before .before .if5 .taken) lax) ∙ field-kept dataRecord 29 lax s refl p (c .before .before .is-middling-text-at .ensures (c .before .if6 .taken) lax) ∙ field-kept dataRecord 30 lax s refl p (c .is-middling-text-at2 .ensures h lax)
+returns c =
+    let at-is-middling-text-at = c .before .before in
+    let if5 = at-is-middling-text-at .before .if5 in
+    let at-is-text-at2 = at-is-middling-text-at .before .before in
+    let if4 = at-is-text-at2 .before .if4 in
+    let is-text-at = at-is-text-at2 .before .before .is-text-at in
+    let at-if3 = at-is-text-at2 .before .before .before in
+    let is-there = at-if3 .before .is-there in
+    let if2 = at-if3 .before .before .if2 in
+    let at-is-short-text-at2 = at-if3 .before .before .before in
+    let if1 = at-is-short-text-at2 .before .if1 in
+    let is-short-text-at = at-is-short-text-at2 .before .before .is-short-text-at in
+    let rec = at-is-short-text-at2 .before .before .before .before .args .rec .now in
+    λ h lax p. let s = rec in field-kept dataRecord 24 lax s refl p (is-short-text-at .ensures (if1 .taken) lax)
+    ∙ field-kept dataRecord 25 lax s refl p (at-is-short-text-at2 .is-short-text-at2 .ensures (if2 .taken) lax)
+    ∙ field-kept dataRecord 26 lax s refl p (rw (sym (is-there .ensures) ∙ at-if3 .if3 .taken))
+    ∙ field-kept dataRecord 27 lax s refl p (is-text-at .ensures (if4 .taken) lax)
+    ∙ field-kept dataRecord 28 lax s refl p (at-is-text-at2 .is-text-at2 .ensures (if5 .taken) lax)
+    ∙ field-kept dataRecord 29 lax s refl p (at-is-middling-text-at .is-middling-text-at .ensures (c .before .if6 .taken) lax)
+    ∙ field-kept dataRecord 30 lax s refl p (c .is-middling-text-at2 .ensures h lax)
 
 returns-2 : tie.Need-returns-2
 returns-2 c = never

@@ -28,7 +28,24 @@ does-run-at-requires c κs = search needs
 
 returns : tie.Need-returns
 unfolding keptAt keeps keepsOther
-returns c = λ h p. let lax = c .before .before .before .before .before .before .before .before .before .before .before .before .args .lax in let s = c .before .before .before .before .before .before .before .before .before .before .before .before .args .rec .now in field-kept dataRecord 11 lax s refl p (c .before .before .before .before .before .before .before .before .before .before .is-text-at .ensures (c .before .before .before .before .before .before .before .before .before .if1 .taken) lax) ∙ field-kept dataRecord 12 lax s refl p (c .before .before .before .before .before .before .before .before .is-text-at2 .ensures (c .before .before .before .before .before .before .before .if2 .taken) lax) ∙ field-kept dataRecord 13 lax s refl p (c .before .before .before .before .before .before .is-one-at .ensures (c .before .before .before .before .before .if3 .taken)) ∙ field-kept dataRecord 14 lax s refl p (c .before .before .before .before .is-one-at2 .ensures (c .before .before .before .if4 .taken)) ∙ field-kept dataRecord 15 lax s refl p (c .before .before .is-short-text-at .ensures (c .before .if5 .taken) lax) ∙ field-kept dataRecord 16 lax s refl p (sym (c .does-run-at .ensures) ∙ h)
+returns c =
+    let at-is-short-text-at = c .before .before in
+    let if4 = at-is-short-text-at .before .if4 in
+    let is-one-at2 = at-is-short-text-at .before .before .is-one-at2 in
+    let at-if3 = at-is-short-text-at .before .before .before in
+    let is-one-at = at-if3 .before .is-one-at in
+    let if2 = at-if3 .before .before .if2 in
+    let at-is-text-at2 = at-if3 .before .before .before in
+    let if1 = at-is-text-at2 .before .if1 in
+    let is-text-at = at-is-text-at2 .before .before .is-text-at in
+    let at-start = at-is-text-at2 .before .before .before .before .args in
+    λ h p. let lax = at-start .lax in let s = at-start .rec .now in field-kept dataRecord 11 lax s refl p
+    (is-text-at .ensures (if1 .taken) lax)
+    ∙ field-kept dataRecord 12 lax s refl p (at-is-text-at2 .is-text-at2 .ensures (if2 .taken) lax)
+    ∙ field-kept dataRecord 13 lax s refl p (is-one-at .ensures (at-if3 .if3 .taken))
+    ∙ field-kept dataRecord 14 lax s refl p (is-one-at2 .ensures (if4 .taken))
+    ∙ field-kept dataRecord 15 lax s refl p (at-is-short-text-at .is-short-text-at .ensures (c .before .if5 .taken) lax)
+    ∙ field-kept dataRecord 16 lax s refl p (sym (c .does-run-at .ensures) ∙ h)
 
 returns-2 : tie.Need-returns-2
 returns-2 c = never

@@ -28,7 +28,23 @@ is-one-at-requires c κs = search needs
 
 returns : tie.Need-returns
 unfolding keptAt keeps keepsOther faultFrom faultIn
-returns c = λ h lax p. let s = c .before .before .before .before .before .before .before .before .before .before .before .before .args .rec .now in field-kept dataRecord 31 lax s refl p (c .before .before .before .before .before .before .before .before .before .before .is-short-text-at .ensures (c .before .before .before .before .before .before .before .before .before .if1 .taken) lax) ∙ field-kept dataRecord 32 lax s refl p (c .before .before .before .before .before .before .before .before .is-short-text-at2 .ensures (c .before .before .before .before .before .before .before .if2 .taken) lax) ∙ field-kept dataRecord 33 lax s refl p (c .before .before .before .before .before .before .is-text-at .ensures (c .before .before .before .before .before .if3 .taken) lax) ∙ field-kept dataRecord 34 lax s refl p (c .before .before .before .before .is-short-text-at3 .ensures (c .before .before .before .if4 .taken) lax) ∙ field-kept dataRecord 35 lax s refl p (rw (sym (c .before .before .is-there .ensures) ∙ (c .before .if5 .taken))) ∙ field-kept dataRecord 36 lax s refl p (c .is-one-at .ensures h)
+returns c =
+    let at-is-there = c .before .before in
+    let if4 = at-is-there .before .if4 in
+    let is-short-text-at3 = at-is-there .before .before .is-short-text-at3 in
+    let at-if3 = at-is-there .before .before .before in
+    let is-text-at = at-if3 .before .is-text-at in
+    let if2 = at-if3 .before .before .if2 in
+    let at-is-short-text-at2 = at-if3 .before .before .before in
+    let if1 = at-is-short-text-at2 .before .if1 in
+    let is-short-text-at = at-is-short-text-at2 .before .before .is-short-text-at in
+    let rec = at-is-short-text-at2 .before .before .before .before .args .rec .now in
+    λ h lax p. let s = rec in field-kept dataRecord 31 lax s refl p (is-short-text-at .ensures (if1 .taken) lax)
+    ∙ field-kept dataRecord 32 lax s refl p (at-is-short-text-at2 .is-short-text-at2 .ensures (if2 .taken) lax)
+    ∙ field-kept dataRecord 33 lax s refl p (is-text-at .ensures (at-if3 .if3 .taken) lax)
+    ∙ field-kept dataRecord 34 lax s refl p (is-short-text-at3 .ensures (if4 .taken) lax)
+    ∙ field-kept dataRecord 35 lax s refl p (rw (sym (at-is-there .is-there .ensures) ∙ c .before .if5 .taken))
+    ∙ field-kept dataRecord 36 lax s refl p (c .is-one-at .ensures h)
 
 returns-2 : tie.Need-returns-2
 returns-2 c = never

@@ -25,7 +25,21 @@ is-short-text-at-requires c κs = search needs
 
 returns : tie.Need-returns
 unfolding keptAt keeps keepsOther
-returns c = λ h lax p. let s = c .before .before .before .before .before .before .before .before .before .before .args .rec .now in field-kept dataRecord 0 lax s refl p (c .before .before .before .before .before .before .before .before .is-one-at .ensures (c .before .before .before .before .before .before .before .if1 .taken)) ∙ field-kept dataRecord 1 lax s refl p (sym (c .before .before .before .before .before .before .are-all-at .ensures) ∙ (c .before .before .before .before .before .if2 .taken)) ∙ field-kept dataRecord 2 lax s refl p (sym (c .before .before .before .before .are-all-at2 .ensures) ∙ (c .before .before .before .if3 .taken)) ∙ (let q = c .before .before .is-house-at .ensures (c .before .if4 .taken) _ in field-passed dataRecord 3 lax s refl (house-passes _ _ lax s _ (field-whole dataRecord 3 lax s refl p (q .0)) (q .1))) ∙ field-kept dataRecord 4 lax s refl p (c .is-short-text-at .ensures h lax)
+returns c =
+    let is-house-at = c .before .before .is-house-at in
+    let at-if3 = c .before .before .before in
+    let are-all-at2 = at-if3 .before .are-all-at2 in
+    let if2 = at-if3 .before .before .if2 in
+    let at-are-all-at = at-if3 .before .before .before in
+    let if1 = at-are-all-at .before .if1 in
+    let is-one-at = at-are-all-at .before .before .is-one-at in
+    let rec = at-are-all-at .before .before .before .before .args .rec .now in
+    λ h lax p. let s = rec in field-kept dataRecord 0 lax s refl p (is-one-at .ensures (if1 .taken))
+    ∙ field-kept dataRecord 1 lax s refl p (sym (at-are-all-at .are-all-at .ensures) ∙ if2 .taken)
+    ∙ field-kept dataRecord 2 lax s refl p (sym (are-all-at2 .ensures) ∙ at-if3 .if3 .taken)
+    ∙ (let q = is-house-at .ensures (c .before .if4 .taken) _ in field-passed dataRecord 3 lax s refl
+    (house-passes _ _ lax s _ (field-whole dataRecord 3 lax s refl p (q .0)) (q .1)))
+    ∙ field-kept dataRecord 4 lax s refl p (c .is-short-text-at .ensures h lax)
 
 returns-2 : tie.Need-returns-2
 returns-2 c = never

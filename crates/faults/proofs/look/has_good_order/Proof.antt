@@ -31,7 +31,26 @@ is-one-at-requires c κs = search needs
 
 returns : tie.Need-returns
 unfolding keptAt keeps keepsOther
-returns c = λ h lax p. let s = c .before .before .before .before .before .before .before .before .before .before .before .before .before .before .args .rec .now in field-kept dataRecord 17 lax s refl p (c .before .before .before .before .before .before .before .before .before .before .before .before .is-text-at .ensures (c .before .before .before .before .before .before .before .before .before .before .before .if1 .taken) lax) ∙ field-kept dataRecord 18 lax s refl p (c .before .before .before .before .before .before .before .before .before .before .is-short-text-at .ensures (c .before .before .before .before .before .before .before .before .before .if2 .taken) lax) ∙ field-kept dataRecord 19 lax s refl p (c .before .before .before .before .before .before .before .before .is-middling-text-at .ensures (c .before .before .before .before .before .before .before .if3 .taken) lax) ∙ field-kept dataRecord 20 lax s refl p (sym (c .before .before .before .before .before .before .is-date-at .ensures) ∙ (c .before .before .before .before .before .if4 .taken)) ∙ field-kept dataRecord 21 lax s refl p (c .before .before .before .before .is-short-text-at2 .ensures (c .before .before .before .if5 .taken) lax) ∙ field-kept dataRecord 22 lax s refl p (sym (c .before .before .does-run-at .ensures) ∙ (c .before .if6 .taken)) ∙ field-kept dataRecord 23 lax s refl p (c .is-one-at .ensures h)
+returns c =
+    let at-does-run-at = c .before .before in
+    let if5 = at-does-run-at .before .if5 in
+    let at-is-short-text-at2 = at-does-run-at .before .before in
+    let if4 = at-is-short-text-at2 .before .if4 in
+    let is-date-at = at-is-short-text-at2 .before .before .is-date-at in
+    let at-if3 = at-is-short-text-at2 .before .before .before in
+    let is-middling-text-at = at-if3 .before .is-middling-text-at in
+    let if2 = at-if3 .before .before .if2 in
+    let at-is-short-text-at = at-if3 .before .before .before in
+    let if1 = at-is-short-text-at .before .if1 in
+    let is-text-at = at-is-short-text-at .before .before .is-text-at in
+    let rec = at-is-short-text-at .before .before .before .before .args .rec .now in
+    λ h lax p. let s = rec in field-kept dataRecord 17 lax s refl p (is-text-at .ensures (if1 .taken) lax)
+    ∙ field-kept dataRecord 18 lax s refl p (at-is-short-text-at .is-short-text-at .ensures (if2 .taken) lax)
+    ∙ field-kept dataRecord 19 lax s refl p (is-middling-text-at .ensures (at-if3 .if3 .taken) lax)
+    ∙ field-kept dataRecord 20 lax s refl p (sym (is-date-at .ensures) ∙ if4 .taken)
+    ∙ field-kept dataRecord 21 lax s refl p (at-is-short-text-at2 .is-short-text-at2 .ensures (if5 .taken) lax)
+    ∙ field-kept dataRecord 22 lax s refl p (sym (at-does-run-at .does-run-at .ensures) ∙ c .before .if6 .taken)
+    ∙ field-kept dataRecord 23 lax s refl p (c .is-one-at .ensures h)
 
 returns-2 : tie.Need-returns-2
 returns-2 c = never

@@ -23,7 +23,17 @@ is-one-at-requires-2 c κs = search needs
 
 returns : tie.Need-returns
 unfolding keptAt keeps keepsOther faultFrom faultIn
-returns c = λ h p. let lax = false in let s = c .before .before .before .before .before .before .before .before .args .row .now in field-kept guideRow 9 lax s refl p (sym (c .before .before .before .before .before .before .does-run-at .ensures) ∙ (c .before .before .before .before .before .if1 .taken)) ∙ field-kept guideRow 10 lax s refl p (rw (sym (c .before .before .before .before .is-there .ensures) ∙ (c .before .before .before .if2 .taken))) ∙ field-kept guideRow 11 lax s refl p (c .before .before .is-one-at .ensures (c .before .if3 .taken)) ∙ field-kept guideRow 12 lax s refl p (c .is-one-at2 .ensures h)
+returns c =
+    let at-is-one-at = c .before .before in
+    let if2 = at-is-one-at .before .if2 in
+    let at-is-there = at-is-one-at .before .before in
+    let if1 = at-is-there .before .if1 in
+    let does-run-at = at-is-there .before .before .does-run-at in
+    let row = at-is-there .before .before .before .before .args .row .now in
+    λ h p. let lax = false in let s = row in field-kept guideRow 9 lax s refl p (sym (does-run-at .ensures) ∙ if1 .taken)
+    ∙ field-kept guideRow 10 lax s refl p (rw (sym (at-is-there .is-there .ensures) ∙ if2 .taken))
+    ∙ field-kept guideRow 11 lax s refl p (at-is-one-at .is-one-at .ensures (c .before .if3 .taken))
+    ∙ field-kept guideRow 12 lax s refl p (c .is-one-at2 .ensures h)
 
 returns-2 : tie.Need-returns-2
 returns-2 c = never

@@ -17,7 +17,11 @@ are-capitals-at-requires c κs = search needs
 
 returns : tie.Need-returns
 unfolding keptAt keeps keepsOther
-returns c = λ h p. let lax = false in let s = c .before .before .before .before .args .row .now in field-kept guideRow 6 lax s refl p (c .before .before .is-named-at .ensures (c .before .if1 .taken)) ∙ field-kept guideRow 7 lax s refl p (c .are-capitals-at .ensures h)
+returns c =
+    let is-named-at = c .before .before .is-named-at in
+    let row = c .before .before .before .before .args .row .now in
+    λ h p. let lax = false in let s = row in field-kept guideRow 6 lax s refl p (is-named-at .ensures (c .before .if1 .taken))
+    ∙ field-kept guideRow 7 lax s refl p (c .are-capitals-at .ensures h)
 
 returns-2 : tie.Need-returns-2
 returns-2 c = never

@@ -23,7 +23,17 @@ is-direction-at-requires-2 c κs = search needs
 
 returns : tie.Need-returns
 unfolding keptAt keeps keepsOther
-returns c = λ h p. let lax = false in let s = c .before .before .before .before .before .before .before .before .args .row .now in field-kept guideRow 0 lax s refl p (c .before .before .before .before .before .before .is-direction-at .ensures (c .before .before .before .before .before .if1 .taken) lax) ∙ field-kept guideRow 1 lax s refl p (c .before .before .before .before .is-named-at .ensures (c .before .before .before .if2 .taken)) ∙ field-kept guideRow 2 lax s refl p (c .before .before .is-short-text-at .ensures (c .before .if3 .taken) lax) ∙ field-kept guideRow 3 lax s refl p (c .is-direction-at2 .ensures h lax)
+returns c =
+    let at-is-short-text-at = c .before .before in
+    let if2 = at-is-short-text-at .before .if2 in
+    let at-is-named-at = at-is-short-text-at .before .before in
+    let if1 = at-is-named-at .before .if1 in
+    let is-direction-at = at-is-named-at .before .before .is-direction-at in
+    let row = at-is-named-at .before .before .before .before .args .row .now in
+    λ h p. let lax = false in let s = row in field-kept guideRow 0 lax s refl p (is-direction-at .ensures (if1 .taken) lax)
+    ∙ field-kept guideRow 1 lax s refl p (at-is-named-at .is-named-at .ensures (if2 .taken))
+    ∙ field-kept guideRow 2 lax s refl p (at-is-short-text-at .is-short-text-at .ensures (c .before .if3 .taken) lax)
+    ∙ field-kept guideRow 3 lax s refl p (c .is-direction-at2 .ensures h lax)
 
 returns-2 : tie.Need-returns-2
 returns-2 c = never

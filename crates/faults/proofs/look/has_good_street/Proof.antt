@@ -28,7 +28,24 @@ are-capitals-at-requires c κs = search needs
 
 returns : tie.Need-returns
 unfolding keptAt keeps keepsOther
-returns c = λ h p. let lax = c .before .before .before .before .before .before .before .before .before .before .before .before .args .lax in let s = c .before .before .before .before .before .before .before .before .before .before .before .before .args .rec .now in field-kept dataRecord 5 lax s refl p (c .before .before .before .before .before .before .before .before .before .before .is-direction-at .ensures (c .before .before .before .before .before .before .before .before .before .if1 .taken) lax) ∙ field-kept dataRecord 6 lax s refl p (c .before .before .before .before .before .before .before .before .is-named-at .ensures (c .before .before .before .before .before .before .before .if2 .taken)) ∙ field-kept dataRecord 7 lax s refl p (c .before .before .before .before .before .before .is-short-text-at .ensures (c .before .before .before .before .before .if3 .taken) lax) ∙ field-kept dataRecord 8 lax s refl p (c .before .before .before .before .is-direction-at2 .ensures (c .before .before .before .if4 .taken) lax) ∙ field-kept dataRecord 9 lax s refl p (c .before .before .is-named-at2 .ensures (c .before .if5 .taken)) ∙ field-kept dataRecord 10 lax s refl p (c .are-capitals-at .ensures h)
+returns c =
+    let at-is-named-at2 = c .before .before in
+    let if4 = at-is-named-at2 .before .if4 in
+    let is-direction-at2 = at-is-named-at2 .before .before .is-direction-at2 in
+    let at-if3 = at-is-named-at2 .before .before .before in
+    let is-short-text-at = at-if3 .before .is-short-text-at in
+    let if2 = at-if3 .before .before .if2 in
+    let at-is-named-at = at-if3 .before .before .before in
+    let if1 = at-is-named-at .before .if1 in
+    let is-direction-at = at-is-named-at .before .before .is-direction-at in
+    let at-start = at-is-named-at .before .before .before .before .args in
+    λ h p. let lax = at-start .lax in let s = at-start .rec .now in field-kept dataRecord 5 lax s refl p
+    (is-direction-at .ensures (if1 .taken) lax)
+    ∙ field-kept dataRecord 6 lax s refl p (at-is-named-at .is-named-at .ensures (if2 .taken))
+    ∙ field-kept dataRecord 7 lax s refl p (is-short-text-at .ensures (at-if3 .if3 .taken) lax)
+    ∙ field-kept dataRecord 8 lax s refl p (is-direction-at2 .ensures (if4 .taken) lax)
+    ∙ field-kept dataRecord 9 lax s refl p (at-is-named-at2 .is-named-at2 .ensures (c .before .if5 .taken))
+    ∙ field-kept dataRecord 10 lax s refl p (c .are-capitals-at .ensures h)
 
 returns-2 : tie.Need-returns-2
 returns-2 c = never

@@ -9,7 +9,10 @@ is-there-requires : tie.Need-is-there-requires
 is-there-requires c κs = search needs
 
 add-e : tie.Need-add-e
-add-e c = let l = there-le (c .before .before .before .args .s .now) (c .before .before .before .args .i) (c .before .before .before .args .n) (sym (c .before .is-there .ensures) ∙ c .if1 .taken) in search needs
+add-e c =
+    let at-start = c .before .before .before .args in
+    let l = there-le (at-start .s .now) (at-start .i) (at-start .n) (sym (c .before .is-there .ensures) ∙ c .if1 .taken) in
+    search needs
 
 sub-is-date : tie.Need-sub-is-date
 sub-is-date c = search needs
@@ -18,7 +21,10 @@ part-is-date-start : tie.Need-part-is-date-start
 part-is-date-start c = search needs
 
 part-is-date-end : tie.Need-part-is-date-end
-part-is-date-end c = let l = there-le (c .before .before .before .args .s .now) (c .before .before .before .args .i) (c .before .before .before .args .n) (sym (c .before .is-there .ensures) ∙ c .if1 .taken) in search needs
+part-is-date-end c =
+    let at-start = c .before .before .before .args in
+    let l = there-le (at-start .s .now) (at-start .i) (at-start .n) (sym (c .before .is-there .ensures) ∙ c .if1 .taken) in
+    search needs
 
 is-date-requires : tie.Need-is-date-requires
 is-date-requires c κs = search needs

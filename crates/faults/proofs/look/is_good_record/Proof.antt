@@ -25,7 +25,23 @@ has-good-end-requires c κs = search needs
 
 returns : tie.Need-returns
 unfolding faultFrom
-returns c = λ h p. c .before .before .before .before .before .before .before .before .before .before .has-good-number .ensures (c .before .before .before .before .before .before .before .before .before .if2 .taken) (c .before .before .before .before .before .before .before .before .before .before .before .before .before .args .lax) p ∙ c .before .before .before .before .before .before .before .before .has-good-street .ensures (c .before .before .before .before .before .before .before .if3 .taken) p ∙ c .before .before .before .before .before .before .has-good-customer .ensures (c .before .before .before .before .before .if4 .taken) p ∙ c .before .before .before .before .has-good-order .ensures (c .before .before .before .if5 .taken) (c .before .before .before .before .before .before .before .before .before .before .before .before .before .args .lax) p ∙ c .before .before .has-good-comments .ensures (c .before .if6 .taken) (c .before .before .before .before .before .before .before .before .before .before .before .before .before .args .lax) p ∙ c .has-good-end .ensures h (c .before .before .before .before .before .before .before .before .before .before .before .before .before .args .lax) p
+returns c =
+    let at-has-good-comments = c .before .before in
+    let if5 = at-has-good-comments .before .if5 in
+    let has-good-order = at-has-good-comments .before .before .has-good-order in
+    let at-if4 = at-has-good-comments .before .before .before in
+    let has-good-customer = at-if4 .before .has-good-customer in
+    let if3 = at-if4 .before .before .if3 in
+    let at-has-good-street = at-if4 .before .before .before in
+    let if2 = at-has-good-street .before .if2 in
+    let has-good-number = at-has-good-street .before .before .has-good-number in
+    let lax = at-has-good-street .before .before .before .before .before .args .lax in
+    λ h p. has-good-number .ensures (if2 .taken) lax p
+    ∙ at-has-good-street .has-good-street .ensures (if3 .taken) p
+    ∙ has-good-customer .ensures (at-if4 .if4 .taken) p
+    ∙ has-good-order .ensures (if5 .taken) lax p
+    ∙ at-has-good-comments .has-good-comments .ensures (c .before .if6 .taken) lax p
+    ∙ c .has-good-end .ensures h lax p
 
 returns-2 : tie.Need-returns-2
 returns-2 c = never

@@ -22,7 +22,26 @@ has-good-row-end-requires c κs = search needs
 
 returns : tie.Need-returns
 unfolding faultFrom
-returns c = λ h p. let s = c .before .before .before .before .before .before .before .before .before .args .row .now in let q = c .before .before .before .before .is-range .ensures (c .before .before .before .if3 .taken) in c .before .before .before .before .before .before .has-good-row-street .ensures (c .before .before .before .before .before .if2 .taken) p ∙ field-passed guideRow low false s refl (low-passes _ _ false s _ (field-whole guideRow low false s refl p (there-before s (startOf guideRow parity) 1 (startOf guideRow low) (sizeOf guideRow low) refl (q 0 .0))) (q _ .1 .0)) ∙ field-passed guideRow high false s refl (high-passes _ _ false s _ (field-whole guideRow high false s refl p (there-before s (startOf guideRow parity) 1 (startOf guideRow high) (sizeOf guideRow high) refl (q 0 .0))) (q _ .1 .1 .0)) ∙ c .before .before .has-good-row-place .ensures (c .before .if4 .taken) p ∙ field-passed guideRow parity false s refl (parity-passes _ _ false s _ (field-whole guideRow parity false s refl p (q 0 .0)) (q _ .1 .1 .1)) ∙ c .has-good-row-end .ensures h p
+returns c =
+    let at-has-good-row-place = c .before .before in
+    let if3 = at-has-good-row-place .before .if3 in
+    let at-is-range = at-has-good-row-place .before .before in
+    let if2 = at-is-range .before .if2 in
+    let has-good-row-street = at-is-range .before .before .has-good-row-street in
+    let row = at-is-range .before .before .before .before .before .args .row .now in
+    λ h p. let s = row in let q = at-is-range .is-range .ensures (if3 .taken) in has-good-row-street .ensures (if2 .taken) p
+    ∙ field-passed guideRow low false s refl
+    (low-passes _ _ false s _
+    (field-whole guideRow low false s refl p
+    (there-before s (startOf guideRow parity) 1 (startOf guideRow low) (sizeOf guideRow low) refl (q 0 .0))) (q _ .1 .0))
+    ∙ field-passed guideRow high false s refl
+    (high-passes _ _ false s _
+    (field-whole guideRow high false s refl p
+    (there-before s (startOf guideRow parity) 1 (startOf guideRow high) (sizeOf guideRow high) refl (q 0 .0))) (q _ .1 .1 .0))
+    ∙ at-has-good-row-place .has-good-row-place .ensures (c .before .if4 .taken) p
+    ∙ field-passed guideRow parity false s refl
+    (parity-passes _ _ false s _ (field-whole guideRow parity false s refl p (q 0 .0)) (q _ .1 .1 .1))
+    ∙ c .has-good-row-end .ensures h p
 
 returns-2 : tie.Need-returns-2
 returns-2 c = never

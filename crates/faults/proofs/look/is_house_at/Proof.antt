@@ -11,7 +11,10 @@ is-there-requires : tie.Need-is-there-requires
 is-there-requires c κs = search needs
 
 add-e : tie.Need-add-e
-add-e c = let l = there-le (c .before .before .before .args .s .now) (c .before .before .before .args .i) (c .before .before .before .args .n) (sym (c .before .is-there .ensures) ∙ c .if1 .taken) in search needs
+add-e c =
+    let at-start = c .before .before .before .args in
+    let l = there-le (at-start .s .now) (at-start .i) (at-start .n) (sym (c .before .is-there .ensures) ∙ c .if1 .taken) in
+    search needs
 
 sub-house-in : tie.Need-sub-house-in
 sub-house-in c = search needs
@@ -20,7 +23,10 @@ part-house-in-start : tie.Need-part-house-in-start
 part-house-in-start c = search needs
 
 part-house-in-end : tie.Need-part-house-in-end
-part-house-in-end c = let l = there-le (c .before .before .before .args .s .now) (c .before .before .before .args .i) (c .before .before .before .args .n) (sym (c .before .is-there .ensures) ∙ c .if1 .taken) in search needs
+part-house-in-end c =
+    let at-start = c .before .before .before .args in
+    let l = there-le (at-start .s .now) (at-start .i) (at-start .n) (sym (c .before .is-there .ensures) ∙ c .if1 .taken) in
+    search needs
 
 house-in-requires : tie.Need-house-in-requires
 house-in-requires c κs = search needs
@@ -36,7 +42,11 @@ returns c = never
 
 returns-2 : tie.Need-returns-2
 unfolding houseFault
-returns-2 c = λ h at. ((sym (c .before .before .before .before .before .is-there .ensures) ∙ c .before .before .before .before .if1 .taken), rw (← rw part-is at (c .before .before .house-in .ensures), c .enum-told .given .1))
+returns-2 c =
+    let at-house-in = c .before .before in
+    let if1 = at-house-in .before .before .if1 in
+    let is-there = at-house-in .before .before .before .is-there in
+    λ h at. ((sym (is-there .ensures) ∙ if1 .taken), rw (← rw part-is at (at-house-in .house-in .ensures), c .enum-told .given .1))
 
 returns-3 : tie.Need-returns-3
 returns-3 c = never

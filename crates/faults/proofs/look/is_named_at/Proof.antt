@@ -13,10 +13,20 @@ byte-of-requires : tie.Need-byte-of-requires
 byte-of-requires c κs = search needs
 
 returns : tie.Need-returns
-returns c = λ h. name-begins (c .before .before .before .before .before .args .s .now) (c .before .before .before .before .before .args .i) (c .before .before .before .before .before .args .n) (sym (c .before .before .before .is-there .ensures) ∙ c .before .before .if1 .taken) (c .before .before .before .before .before .args .lax) (c .before .byte-of .ensures) (c .if2 .taken)
+returns c =
+    let at-if1 = c .before .before in
+    let is-there = at-if1 .before .is-there in
+    let at-start = at-if1 .before .before .before .args in
+    λ h. name-begins (at-start .s .now) (at-start .i) (at-start .n) (sym (is-there .ensures) ∙ at-if1 .if1 .taken) (at-start .lax)
+    (c .before .byte-of .ensures) (c .if2 .taken)
 
 add-e : tie.Need-add-e
-add-e c = let l = there-le (c .before .before .before .before .before .args .s .now) (c .before .before .before .before .before .args .i) (c .before .before .before .before .before .args .n) (sym (c .before .before .before .is-there .ensures) ∙ c .before .before .if1 .taken) in search needs
+add-e c =
+    let if1 = c .before .before .if1 in
+    let is-there = c .before .before .before .is-there in
+    let at-start = c .before .before .before .before .before .args in
+    let l = there-le (at-start .s .now) (at-start .i) (at-start .n) (sym (is-there .ensures) ∙ if1 .taken) in
+    search needs
 
 sub-is-spared : tie.Need-sub-is-spared
 sub-is-spared c = search needs
@@ -25,13 +35,23 @@ part-is-spared-start : tie.Need-part-is-spared-start
 part-is-spared-start c = search needs
 
 part-is-spared-end : tie.Need-part-is-spared-end
-part-is-spared-end c = let l = there-le (c .before .before .before .before .before .args .s .now) (c .before .before .before .before .before .args .i) (c .before .before .before .before .before .args .n) (sym (c .before .before .before .is-there .ensures) ∙ c .before .before .if1 .taken) in search needs
+part-is-spared-end c =
+    let if1 = c .before .before .if1 in
+    let is-there = c .before .before .before .is-there in
+    let at-start = c .before .before .before .before .before .args in
+    let l = there-le (at-start .s .now) (at-start .i) (at-start .n) (sym (is-there .ensures) ∙ if1 .taken) in
+    search needs
 
 is-spared-requires : tie.Need-is-spared-requires
 is-spared-requires c κs = search needs
 
 returns-2 : tie.Need-returns-2
-returns-2 c = λ h. name-spared (c .before .before .before .before .before .before .before .args .s .now) (c .before .before .before .before .before .before .before .args .i) (c .before .before .before .before .before .before .before .args .n) (sym (c .before .before .before .before .before .is-there .ensures) ∙ c .before .before .before .before .if1 .taken) (c .before .before .before .before .before .before .before .args .lax) (sym (rw part-is at (c .is-spared .ensures)) ∙ h)
+returns-2 c =
+    let at-if1 = c .before .before .before .before in
+    let is-there = at-if1 .before .is-there in
+    let at-start = at-if1 .before .before .before .args in
+    λ h. name-spared (at-start .s .now) (at-start .i) (at-start .n) (sym (is-there .ensures) ∙ at-if1 .if1 .taken) (at-start .lax)
+    (sym (rw part-is at (c .is-spared .ensures)) ∙ h)
 
 returns-3 : tie.Need-returns-3
 returns-3 c = never

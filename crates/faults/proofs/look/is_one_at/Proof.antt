@@ -9,13 +9,22 @@ is-there-requires : tie.Need-is-there-requires
 is-there-requires c κs = search needs
 
 shared-slice-read-keeps-one : tie.Need-shared-slice-read-keeps-one
-shared-slice-read-keeps-one c = let l = there-le (c .before .before .before .before .args .s .now) (c .before .before .before .before .args .i) 1 (sym (c .before .before .is-there .ensures) ∙ c .before .if1 .taken) in search needs
+shared-slice-read-keeps-one c =
+    let is-there = c .before .before .is-there in
+    let at-start = c .before .before .before .before .args in
+    let l = there-le (at-start .s .now) (at-start .i) 1 (sym (is-there .ensures) ∙ c .before .if1 .taken) in
+    search needs
 
 keeps-one-requires : tie.Need-keeps-one-requires
 keeps-one-requires c κs = search needs
 
 returns : tie.Need-returns
-returns c = λ h. one-kept (c .before .before .before .before .before .args .s .now) (c .before .before .before .before .before .args .i) (c .before .before .before .before .before .args .rule) (c .before .before .before .before .before .args .lax) (sym (c .before .before .before .is-there .ensures) ∙ c .before .before .if1 .taken) (c .keeps-one .ensures h)
+returns c =
+    let at-if1 = c .before .before in
+    let is-there = at-if1 .before .is-there in
+    let at-start = at-if1 .before .before .before .args in
+    λ h. one-kept (at-start .s .now) (at-start .i) (at-start .rule) (at-start .lax) (sym (is-there .ensures) ∙ at-if1 .if1 .taken)
+    (c .keeps-one .ensures h)
 
 returns-2 : tie.Need-returns-2
 returns-2 c = never

@@ -14,7 +14,9 @@ is-there-requires : tie.Need-is-there-requires
 is-there-requires c κs = search needs
 
 end-at-requires : tie.Need-end-at-requires
-end-at-requires c κs = omega (arith, there-le (c .before .before .before .args .row .now) (startOf guideRow parity) 1 (sym (c .before .is-there .ensures) ∙ c .if1 .taken))
+end-at-requires c κs =
+    let row = c .before .before .before .args .row .now in
+    omega (arith, there-le row (startOf guideRow parity) 1 (sym (c .before .is-there .ensures) ∙ c .if1 .taken))
 
 enum-known-low : tie.Need-enum-known-low
 enum-known-low c = search needs
@@ -26,7 +28,11 @@ returns : tie.Need-returns
 returns c = never
 
 end-at-requires-2 : tie.Need-end-at-requires-2
-end-at-requires-2 c κs = omega (arith, there-le (c .before .before .before .before .before .before .before .args .row .now) (startOf guideRow parity) 1 (sym (c .before .before .before .before .before .is-there .ensures) ∙ c .before .before .before .before .if1 .taken))
+end-at-requires-2 c κs =
+    let at-if1 = c .before .before .before .before in
+    let is-there = at-if1 .before .is-there in
+    let row = at-if1 .before .before .before .args .row .now in
+    omega (arith, there-le row (startOf guideRow parity) 1 (sym (is-there .ensures) ∙ at-if1 .if1 .taken))
 
 enum-known-high : tie.Need-enum-known-high
 enum-known-high c = search needs
@@ -48,7 +54,36 @@ allowed-requires-2 c κs = search needs
 
 returns-3 : tie.Need-returns-3
 unfolding endFault highFault parityFault lowOf highOf
-returns-3 c = λ h at. ((sym (c .before .before .before .before .before .before .before .before .before .before .before .before .before .is-there .ensures) ∙ c .before .before .before .before .before .before .before .before .before .before .before .before .if1 .taken), (rw (← c .before .before .before .before .before .before .before .before .before .before .before .end-at .ensures, c .before .before .before .before .before .before .before .before .before .low .given .1), (rw (← c .before .before .before .before .before .before .before .end-at2 .ensures, c .before .before .before .before .before .high .given .1, ← c .before .before .before .before .before .before .before .before .before .before .before .end-at .ensures, c .before .before .before .before .before .before .before .before .before .low .given .1, le-ltb _ _ (c .before .before .before .if2 .taken)), rw (← c .before .before .before .before .before .before .before .before .before .before .before .end-at .ensures, c .before .before .before .before .before .before .before .before .before .low .given .1, ← c .before .before .before .before .before .before .before .end-at2 .ensures, c .before .before .before .before .before .high .given .1, ← c .before .before .parity .ensures, ← c .before .allowed .ensures, ← c .allowed2 .ensures, h))))
+returns-3 c =
+    let at-parity = c .before .before in
+    let if2 = at-parity .before .if2 in
+    let high = at-parity .before .before .before .high in
+    let at-end-at2 = at-parity .before .before .before .before .before in
+    let end-at2 = at-end-at2 .end-at2 in
+    let low = at-end-at2 .before .before .low in
+    let at-end-at = at-end-at2 .before .before .before .before in
+    let end-at = at-end-at .end-at in
+    let if1 = at-end-at .before .if1 in
+    let is-there = at-end-at .before .before .is-there in
+    λ h at. (
+      (sym (is-there .ensures) ∙ if1 .taken),
+      (
+        rw (← end-at .ensures, low .given .1),
+        (
+          rw (← end-at2 .ensures, high .given .1, ← end-at .ensures, low .given .1, le-ltb _ _ (if2 .taken)),
+          rw (
+            ← end-at .ensures,
+            low .given .1,
+            ← end-at2 .ensures,
+            high .given .1,
+            ← at-parity .parity .ensures,
+            ← c .before .allowed .ensures,
+            ← c .allowed2 .ensures,
+            h,
+          ),
+        ),
+      ),
+    )
 
 returns-4 : tie.Need-returns-4
 returns-4 c = never

@@ -16,19 +16,50 @@ byte-of-requires : tie.Need-byte-of-requires
 byte-of-requires c κs = search needs
 
 returns : tie.Need-returns
-returns c = λ h. text-begins (c .before .before .before .before .before .args .s .now) (c .before .before .before .before .before .args .i) (c .before .before .before .before .before .args .n) (sym (c .before .before .before .is-there .ensures) ∙ c .before .before .if1 .taken) (c .before .byte-of .ensures) (c .if2 .taken)
+returns c =
+    let at-if1 = c .before .before in
+    let is-there = at-if1 .before .is-there in
+    let at-start = at-if1 .before .before .before .args in
+    λ h. text-begins (at-start .s .now) (at-start .i) (at-start .n) (sym (is-there .ensures) ∙ at-if1 .if1 .taken)
+    (c .before .byte-of .ensures) (c .if2 .taken)
 
 are-four-blank-requires : tie.Need-are-four-blank-requires
-are-four-blank-requires c κs = omega (arith, there-le (c .before .before .before .before .before .before .before .args .s .now) (c .before .before .before .before .before .before .before .args .i) (c .before .before .before .before .before .before .before .args .n) (sym (c .before .before .before .before .before .is-there .ensures) ∙ c .before .before .before .before .if1 .taken))
+are-four-blank-requires c κs =
+    let at-if1 = c .before .before .before .before in
+    let is-there = at-if1 .before .is-there in
+    let at-start = at-if1 .before .before .before .args in
+    omega (arith, there-le (at-start .s .now) (at-start .i) (at-start .n) (sym (is-there .ensures) ∙ at-if1 .if1 .taken))
 
 add-are-four-blank : tie.Need-add-are-four-blank
-add-are-four-blank c = let l = there-le (c .before .before .before .before .before .before .before .before .args .s .now) (c .before .before .before .before .before .before .before .before .args .i) (c .before .before .before .before .before .before .before .before .args .n) (sym (c .before .before .before .before .before .before .is-there .ensures) ∙ c .before .before .before .before .before .if1 .taken) in search needs
+add-are-four-blank c =
+    let if1 = c .before .before .before .before .before .if1 in
+    let is-there = c .before .before .before .before .before .before .is-there in
+    let at-start = c .before .before .before .before .before .before .before .before .args in
+    let l = there-le (at-start .s .now) (at-start .i) (at-start .n) (sym (is-there .ensures) ∙ if1 .taken) in
+    search needs
 
 are-four-blank-requires-2 : tie.Need-are-four-blank-requires-2
-are-four-blank-requires-2 c κs = omega (arith, there-le (c .before .before .before .before .before .before .before .before .args .s .now) (c .before .before .before .before .before .before .before .before .args .i) (c .before .before .before .before .before .before .before .before .args .n) (sym (c .before .before .before .before .before .before .is-there .ensures) ∙ c .before .before .before .before .before .if1 .taken))
+are-four-blank-requires-2 c κs =
+    let at-if1 = c .before .before .before .before .before in
+    let is-there = at-if1 .before .is-there in
+    let at-start = at-if1 .before .before .before .args in
+    omega (arith, there-le (at-start .s .now) (at-start .i) (at-start .n) (sym (is-there .ensures) ∙ at-if1 .if1 .taken))
 
 returns-2 : tie.Need-returns-2
-returns-2 c = λ h. let a = and-left (c .before .are-four-blank .result) (c .are-four-blank2 .result) h in let b = and-right (c .before .are-four-blank .result) (c .are-four-blank2 .result) h in text-blank (c .before .before .before .before .before .before .before .before .before .args .s .now) (c .before .before .before .before .before .before .before .before .before .args .i) (c .before .before .before .before .before .before .before .before .before .args .n) (sym (c .before .before .before .before .before .before .before .is-there .ensures) ∙ c .before .before .before .before .before .before .if1 .taken) (all-ends Space (c .before .before .before .before .before .before .before .before .before .args .i) (c .before .before .before .before .before .before .before .before .before .args .n) 4 (c .before .before .before .before .before .before .before .before .before .args .s .now) (omega (arith, c .before .before .before .if3 .taken)) (omega (arith, c .before .before .if4 .taken)) (sym (c .before .are-four-blank .ensures) ∙ a) (sym (c .are-four-blank2 .ensures) ∙ b))
+returns-2 c =
+    let are-four-blank = c .before .are-four-blank in
+    let at-if4 = c .before .before in
+    let if3 = at-if4 .before .if3 in
+    let at-if1 = at-if4 .before .before .before .before in
+    let is-there = at-if1 .before .is-there in
+    let at-start = at-if1 .before .before .before .args in
+    let i = at-start .i in
+    let n = at-start .n in
+    let s = at-start .s .now in
+    λ h. let a = and-left (are-four-blank .result) (c .are-four-blank2 .result) h in let b = and-right (are-four-blank .result)
+    (c .are-four-blank2 .result) h in text-blank s i n (sym (is-there .ensures) ∙ at-if1 .if1 .taken)
+    (all-ends Space i n 4 s (omega (arith, if3 .taken)) (omega (arith, at-if4 .if4 .taken)) (sym (are-four-blank .ensures) ∙ a)
+    (sym (c .are-four-blank2 .ensures) ∙ b))
 
 returns-3 : tie.Need-returns-3
 returns-3 c = never

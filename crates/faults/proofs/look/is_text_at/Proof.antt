@@ -13,10 +13,20 @@ byte-of-requires : tie.Need-byte-of-requires
 byte-of-requires c κs = search needs
 
 returns : tie.Need-returns
-returns c = λ h. text-begins (c .before .before .before .before .before .args .s .now) (c .before .before .before .before .before .args .i) (c .before .before .before .before .before .args .n) (sym (c .before .before .before .is-there .ensures) ∙ c .before .before .if1 .taken) (c .before .byte-of .ensures) (c .if2 .taken)
+returns c =
+    let at-if1 = c .before .before in
+    let is-there = at-if1 .before .is-there in
+    let at-start = at-if1 .before .before .before .args in
+    λ h. text-begins (at-start .s .now) (at-start .i) (at-start .n) (sym (is-there .ensures) ∙ at-if1 .if1 .taken)
+    (c .before .byte-of .ensures) (c .if2 .taken)
 
 add-e : tie.Need-add-e
-add-e c = let l = there-le (c .before .before .before .before .before .args .s .now) (c .before .before .before .before .before .args .i) (c .before .before .before .before .before .args .n) (sym (c .before .before .before .is-there .ensures) ∙ c .before .before .if1 .taken) in search needs
+add-e c =
+    let if1 = c .before .before .if1 in
+    let is-there = c .before .before .before .is-there in
+    let at-start = c .before .before .before .before .before .args in
+    let l = there-le (at-start .s .now) (at-start .i) (at-start .n) (sym (is-there .ensures) ∙ if1 .taken) in
+    search needs
 
 sub-all-in : tie.Need-sub-all-in
 sub-all-in c = search needs
@@ -25,13 +35,23 @@ part-all-in-start : tie.Need-part-all-in-start
 part-all-in-start c = search needs
 
 part-all-in-end : tie.Need-part-all-in-end
-part-all-in-end c = let l = there-le (c .before .before .before .before .before .args .s .now) (c .before .before .before .before .before .args .i) (c .before .before .before .before .before .args .n) (sym (c .before .before .before .is-there .ensures) ∙ c .before .before .if1 .taken) in search needs
+part-all-in-end c =
+    let if1 = c .before .before .if1 in
+    let is-there = c .before .before .before .is-there in
+    let at-start = c .before .before .before .before .before .args in
+    let l = there-le (at-start .s .now) (at-start .i) (at-start .n) (sym (is-there .ensures) ∙ if1 .taken) in
+    search needs
 
 all-in-requires : tie.Need-all-in-requires
 all-in-requires c κs = search needs
 
 returns-2 : tie.Need-returns-2
-returns-2 c = λ h. text-blank (c .before .before .before .before .before .before .before .args .s .now) (c .before .before .before .before .before .before .before .args .i) (c .before .before .before .before .before .before .before .args .n) (sym (c .before .before .before .before .before .is-there .ensures) ∙ c .before .before .before .before .if1 .taken) (sym (rw part-is at (c .all-in .ensures)) ∙ h)
+returns-2 c =
+    let at-if1 = c .before .before .before .before in
+    let is-there = at-if1 .before .is-there in
+    let at-start = at-if1 .before .before .before .args in
+    λ h. text-blank (at-start .s .now) (at-start .i) (at-start .n) (sym (is-there .ensures) ∙ at-if1 .if1 .taken)
+    (sym (rw part-is at (c .all-in .ensures)) ∙ h)
 
 returns-3 : tie.Need-returns-3
 returns-3 c = never

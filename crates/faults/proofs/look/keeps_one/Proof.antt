@@ -47,11 +47,16 @@ returns c = λ h. rw (c .before .before .match .keys1) (ap (λ v. v && true) (sy
 
 returns-2 : tie.Need-returns-2
 unfolding keeps
-returns-2 c = λ h. rw (c .before .match .keys2) (one-or-space (c .before .before .args .lax) (eqb (c .before .before .args .b) 32) _ (rw (c .in-class .ensures) at h))
+returns-2 c =
+    let at-start = c .before .before .args in
+    λ h. rw (c .before .match .keys2) (one-or-space (at-start .lax) (eqb (at-start .b) 32) _ (rw (c .in-class .ensures) at h))
 
 returns-3 : tie.Need-returns-3
 unfolding keeps
-returns-3 c = λ h. rw (c .before .before .match .keys3) (one-or-space (c .before .before .before .args .lax) (eqb (c .before .before .before .args .b) 32) _ (rw (c .member2 .ensures) at h))
+returns-3 c =
+    let match = c .before .before .match in
+    let at-start = c .before .before .before .args in
+    λ h. rw (match .keys3) (one-or-space (at-start .lax) (eqb (at-start .b) 32) _ (rw (c .member2 .ensures) at h))
 
 returns-4 : tie.Need-returns-4
 unfolding keeps keepsOther

@@ -19,15 +19,24 @@ returns c = rw (← c .before .before .number-in .ensures, c .enum-told .given .
 
 returns-2 : tie.Need-returns-2
 unfolding cycleOf
-returns-2 c = rw (← c .before .before .before .before .number-in .ensures, c .before .before .n .given .1, lt-ltb _ _ (c .if1 .taken))
+returns-2 c =
+    let n = c .before .before .n in
+    let number-in = c .before .before .before .before .number-in in
+    rw (← number-in .ensures, n .given .1, lt-ltb _ _ (c .if1 .taken))
 
 returns-3 : tie.Need-returns-3
 unfolding cycleOf
-returns-3 c = rw (← c .before .before .before .before .before .number-in .ensures, c .before .before .before .n .given .1, le-ltb _ _ (c .before .if1 .left), lt-ltb _ _ (c .if2 .taken))
+returns-3 c =
+    let n = c .before .before .before .n in
+    let number-in = c .before .before .before .before .before .number-in in
+    rw (← number-in .ensures, n .given .1, le-ltb _ _ (c .before .if1 .left), lt-ltb _ _ (c .if2 .taken))
 
 returns-4 : tie.Need-returns-4
 unfolding cycleOf
-returns-4 c = rw (← c .before .before .before .before .before .number-in .ensures, c .before .before .before .n .given .1, le-ltb _ _ (c .before .if1 .left), le-ltb _ _ (c .if2 .left))
+returns-4 c =
+    let n = c .before .before .before .n in
+    let number-in = c .before .before .before .before .before .number-in in
+    rw (← number-in .ensures, n .given .1, le-ltb _ _ (c .before .if1 .left), le-ltb _ _ (c .if2 .left))
 
 pub cycle-in-spec : {M : Type 1} → statement M
 cycle-in-spec =

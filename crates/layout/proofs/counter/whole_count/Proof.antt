@@ -17,11 +17,19 @@ enum-told c = search needs
 
 returns : tie.Need-returns
 unfolding wholeCount
-returns c = rw (← c .before .before .before .before .is-plain .ensures, c .before .before .before .if1 .taken, ← c .before .before .number-in .ensures, c .enum-told .given .1)
+returns c =
+    let at-number-in = c .before .before in
+    let if1 = at-number-in .before .if1 in
+    let is-plain = at-number-in .before .before .is-plain in
+    rw (← is-plain .ensures, if1 .taken, ← at-number-in .number-in .ensures, c .enum-told .given .1)
 
 returns-2 : tie.Need-returns-2
 unfolding wholeCount
-returns-2 c = rw (← c .before .before .before .before .before .is-plain .ensures, c .before .before .before .before .if1 .taken, ← c .before .before .before .number-in .ensures, c .before .n .given .1)
+returns-2 c =
+    let at-number-in = c .before .before .before in
+    let if1 = at-number-in .before .if1 in
+    let is-plain = at-number-in .before .before .is-plain in
+    rw (← is-plain .ensures, if1 .taken, ← at-number-in .number-in .ensures, c .before .n .given .1)
 
 returns-3 : tie.Need-returns-3
 unfolding wholeCount

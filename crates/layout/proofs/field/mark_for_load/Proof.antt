@@ -20,7 +20,10 @@ same-length c = search needs
 
 returns : tie.Need-returns
 unfolding forLoad
-returns c = rw (← c .before .before .before .before .before .before .before .put .ensures) (c .before .before .put2 .ensures)
+returns c =
+    let put2 = c .before .before .put2 in
+    let put = c .before .before .before .before .before .before .before .put in
+    rw (← put .ensures) (put2 .ensures)
 
 pub mark-for-load-spec : {M : Type 1} → statement M
 mark-for-load-spec =

@@ -29,7 +29,11 @@ coded-requires c κs = search needs
 
 returns-3 : tie.Need-returns-3
 unfolding filedOf
-returns-3 c = rw (eq-eqb _ _ (c .before .before .before .before .before .before .if1 .left), ← c .before .before .before .before .before .date .ensures, c .before .before .before .day .given .1, ← c .before .function .ensures) (c .coded .ensures)
+returns-3 c =
+    let at-day = c .before .before .before in
+    let date = at-day .before .before .date in
+    let if1 = at-day .before .before .before .if1 in
+    rw (eq-eqb _ _ (if1 .left), ← date .ensures, at-day .day .given .1, ← c .before .function .ensures) (c .coded .ensures)
 
 pub filed-spec : {M : Type 1} → statement M
 filed-spec =

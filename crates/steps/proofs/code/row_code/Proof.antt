@@ -17,11 +17,17 @@ returns-2 c = rw (eq-eqb _ _ (c .before .before .if1 .left), ← c .before .row-
 
 returns-3 : tie.Need-returns-3
 unfolding rowCodeOf
-returns-3 c = rw (eq-eqb _ _ (c .before .before .before .if1 .left), ← c .before .before .row-function .ensures, ne-eqb _ _ (c .before .if2 .left), eq-eqb _ _ (c .if3 .taken))
+returns-3 c =
+    let row-function = c .before .before .row-function in
+    let if1 = c .before .before .before .if1 in
+    rw (eq-eqb _ _ (if1 .left), ← row-function .ensures, ne-eqb _ _ (c .before .if2 .left), eq-eqb _ _ (c .if3 .taken))
 
 returns-4 : tie.Need-returns-4
 unfolding rowCodeOf
-returns-4 c = rw (eq-eqb _ _ (c .before .before .before .if1 .left), ← c .before .before .row-function .ensures, ne-eqb _ _ (c .before .if2 .left), ne-eqb _ _ (c .if3 .left))
+returns-4 c =
+    let row-function = c .before .before .row-function in
+    let if1 = c .before .before .before .if1 in
+    rw (eq-eqb _ _ (if1 .left), ← row-function .ensures, ne-eqb _ _ (c .before .if2 .left), ne-eqb _ _ (c .if3 .left))
 
 pub row-code-spec : {M : Type 1} → statement M
 row-code-spec = tie.close (tie.spec returns row-function-requires returns-2 returns-3 returns-4)

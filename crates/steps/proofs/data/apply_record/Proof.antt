@@ -17,7 +17,9 @@ enum-told c = search needs
 
 returns : tie.Need-returns
 unfolding applied step
-returns c = (rw (← c .before .before .filed .ensures, c .enum-told .given .1), rw (← c .before .before .filed .ensures, c .enum-told .given .1))
+returns c =
+    let filed = c .before .before .filed in
+    (rw (← filed .ensures, c .enum-told .given .1), rw (← filed .ensures, c .enum-told .given .1))
 
 decide-requires : tie.Need-decide-requires
 decide-requires c κs = search needs
@@ -26,7 +28,14 @@ same-length : tie.Need-same-length
 same-length c = search needs
 
 returns-2 : tie.Need-returns-2
-returns-2 c = let q = acts-not (c .before .before .before .before .before .before .before .before .before .before .before .args .register .now) (c .before .before .before .before .before .before .before .before .before .before .before .args .guide .now) (c .before .before .before .before .before .before .before .before .before .before .before .args .header) (c .before .before .before .before .before .before .before .before .before .before .before .args .rec .now) _ _ (c .before .decide .result) (sym (c .before .before .before .before .before .before .before .filed .ensures) ∙ c .before .before .before .before .before .c .given .1) (c .before .decide .ensures) (c .if1 .taken) in (ap (λ (x : Step). x .answer) q, ap (λ (x : Step). x .register) q)
+returns-2 c =
+    let decide = c .before .decide in
+    let at-c = c .before .before .before .before .before in
+    let filed = at-c .before .before .filed in
+    let at-start = at-c .before .before .before .before .before .before .args in
+    let q = acts-not (at-start .register .now) (at-start .guide .now) (at-start .header) (at-start .rec .now) _ _ (decide .result)
+    (sym (filed .ensures) ∙ at-c .c .given .1) (decide .ensures) (c .if1 .taken) in
+    (ap (λ (x : Step). x .answer) q, ap (λ (x : Step). x .register) q)
 
 enum-known-slot : tie.Need-enum-known-slot
 enum-known-slot c = search needs
@@ -38,7 +47,15 @@ same-length-2 : tie.Need-same-length-2
 same-length-2 c = search needs
 
 returns-3 : tie.Need-returns-3
-returns-3 c = let q = acts-nowhere (c .before .before .before .before .before .before .before .before .before .before .before .before .before .args .register .now) (c .before .before .before .before .before .before .before .before .before .before .before .before .before .args .guide .now) (c .before .before .before .before .before .before .before .before .before .before .before .before .before .args .header) (c .before .before .before .before .before .before .before .before .before .before .before .before .before .args .rec .now) _ _ (c .before .before .before .decide .result) (sym (c .before .before .before .before .before .before .before .before .before .filed .ensures) ∙ c .before .before .before .before .before .before .before .c .given .1) (c .before .before .before .decide .ensures) (c .before .before .if1 .left) (c .enum-told2 .given .1) in (ap (λ (x : Step). x .answer) q, ap (λ (x : Step). x .register) q)
+returns-3 c =
+    let at-if1 = c .before .before in
+    let decide = at-if1 .before .decide in
+    let at-c = at-if1 .before .before .before .before .before in
+    let filed = at-c .before .before .filed in
+    let at-start = at-c .before .before .before .before .before .before .args in
+    let q = acts-nowhere (at-start .register .now) (at-start .guide .now) (at-start .header) (at-start .rec .now) _ _ (decide .result)
+    (sym (filed .ensures) ∙ at-c .c .given .1) (decide .ensures) (at-if1 .if1 .left) (c .enum-told2 .given .1) in
+    (ap (λ (x : Step). x .answer) q, ap (λ (x : Step). x .register) q)
 
 does-store-requires : tie.Need-does-store-requires
 does-store-requires c κs = search needs
@@ -53,36 +70,121 @@ same-length-3 : tie.Need-same-length-3
 same-length-3 c = search needs
 
 returns-4 : tie.Need-returns-4
-returns-4 c = (acts-under (c .before .before .before .before .before .before .before .before .before .before .before .before .before .before .before .before .before .before .args .register .now) (c .before .before .before .before .before .before .before .before .before .before .before .before .before .before .before .before .before .before .args .guide .now) (c .before .before .before .before .before .before .before .before .before .before .before .before .before .before .before .before .before .before .args .header) (c .before .before .before .before .before .before .before .before .before .before .before .before .before .before .before .before .before .before .args .rec .now) _ _ (c .before .before .before .before .before .before .before .before .decide .result) (sym (c .before .before .before .before .before .before .before .before .before .before .before .before .before .before .filed .ensures) ∙ c .before .before .before .before .before .before .before .before .before .before .before .before .c .given .1) (c .before .before .before .before .before .before .before .before .decide .ensures) (c .before .before .before .before .before .before .before .if1 .left) (sym (c .before .before .before .does-store .ensures) ∙ c .before .before .if2 .taken) (c .enum-told3 .given .1), acts-under (c .before .before .before .before .before .before .before .before .before .before .before .before .before .before .before .before .before .before .args .register .now) (c .before .before .before .before .before .before .before .before .before .before .before .before .before .before .before .before .before .before .args .guide .now) (c .before .before .before .before .before .before .before .before .before .before .before .before .before .before .before .before .before .before .args .header) (c .before .before .before .before .before .before .before .before .before .before .before .before .before .before .before .before .before .before .args .rec .now) _ _ (c .before .before .before .before .before .before .before .before .decide .result) (sym (c .before .before .before .before .before .before .before .before .before .before .before .before .before .before .filed .ensures) ∙ c .before .before .before .before .before .before .before .before .before .before .before .before .c .given .1) (c .before .before .before .before .before .before .before .before .decide .ensures) (c .before .before .before .before .before .before .before .if1 .left) (sym (c .before .before .before .does-store .ensures) ∙ c .before .before .if2 .taken) (c .enum-told3 .given .1))
+returns-4 c =
+    let at-if2 = c .before .before in
+    let if2 = at-if2 .if2 in
+    let does-store = at-if2 .before .does-store in
+    let at-if1 = at-if2 .before .before .before .before .before in
+    let if1 = at-if1 .if1 in
+    let decide = at-if1 .before .decide in
+    let at-c = at-if1 .before .before .before .before .before in
+    let the-c = at-c .c in
+    let filed = at-c .before .before .filed in
+    let at-start = at-c .before .before .before .before .before .before .args in
+    let header = at-start .header in
+    let register = at-start .register .now in
+    let guide = at-start .guide .now in
+    let rec = at-start .rec .now in (
+      acts-under register guide header rec _ _ (decide .result) (sym (filed .ensures) ∙ the-c .given .1) (decide .ensures) (if1 .left)
+          (sym (does-store .ensures) ∙ if2 .taken) (c .enum-told3 .given .1),
+      acts-under register guide header rec _ _ (decide .result) (sym (filed .ensures) ∙ the-c .given .1) (decide .ensures) (if1 .left)
+          (sym (does-store .ensures) ∙ if2 .taken) (c .enum-told3 .given .1),
+    )
 
 state-after-requires : tie.Need-state-after-requires
 state-after-requires c κs = search needs
 
 row-at-requires : tie.Need-row-at-requires
-row-at-requires c κs = acts-row (c .before .before .before .before .before .before .before .before .before .before .before .before .before .before .before .before .before .before .before .before .before .args .register .now) (c .before .before .before .before .before .before .before .before .before .before .before .before .before .before .before .before .before .before .before .before .before .args .guide .now) (c .before .before .before .before .before .before .before .before .before .before .before .before .before .before .before .before .before .before .before .before .before .args .header) (c .before .before .before .before .before .before .before .before .before .before .before .before .before .before .before .before .before .before .before .before .before .args .rec .now) _ _ (c .before .before .before .before .before .before .before .before .before .before .before .decide .result) (sym (c .before .before .before .before .before .before .before .before .before .before .before .before .before .before .before .before .before .filed .ensures) ∙ c .before .before .before .before .before .before .before .before .before .before .before .before .before .before .before .c .given .1) (c .before .before .before .before .before .before .before .before .before .before .before .decide .ensures) (c .before .before .before .before .before .before .before .before .before .before .if1 .left) (c .before .before .before .row .given .0 .0) (sym (c .before .before .before .before .before .before .does-store .ensures) ∙ c .before .before .before .before .before .if2 .taken) (c .before .before .before .row .given .1)
+row-at-requires c κs =
+    let row = c .before .before .before .row in
+    let at-if2 = c .before .before .before .before .before in
+    let does-store = at-if2 .before .does-store in
+    let at-if1 = at-if2 .before .before .before .before .before in
+    let decide = at-if1 .before .decide in
+    let at-c = at-if1 .before .before .before .before .before in
+    let filed = at-c .before .before .filed in
+    let at-start = at-c .before .before .before .before .before .before .args in
+    acts-row (at-start .register .now) (at-start .guide .now) (at-start .header) (at-start .rec .now) _ _ (decide .result)
+    (sym (filed .ensures) ∙ at-c .c .given .1) (decide .ensures) (at-if1 .if1 .left) (row .given .0 .0)
+    (sym (does-store .ensures) ∙ at-if2 .if2 .taken) (row .given .1)
 
 store-at-requires : tie.Need-store-at-requires
-store-at-requires c κs = (acts-slot (c .before .before .before .before .before .before .before .before .before .before .before .before .before .before .before .before .before .before .before .before .before .before .args .register .now) (c .before .before .before .before .before .before .before .before .before .before .before .before .before .before .before .before .before .before .before .before .before .before .args .guide .now) (c .before .before .before .before .before .before .before .before .before .before .before .before .before .before .before .before .before .before .before .before .before .before .args .header) (c .before .before .before .before .before .before .before .before .before .before .before .before .before .before .before .before .before .before .before .before .before .before .args .rec .now) _ _ (c .before .before .before .before .before .before .before .before .before .before .before .before .decide .result) (sym (c .before .before .before .before .before .before .before .before .before .before .before .before .before .before .before .before .before .before .filed .ensures) ∙ c .before .before .before .before .before .before .before .before .before .before .before .before .before .before .before .before .c .given .1) (c .before .before .before .before .before .before .before .before .before .before .before .before .decide .ensures) (c .before .before .before .before .before .before .before .before .before .before .before .if1 .left) (c .before .before .before .before .before .before .before .before .before .slot .given .0 .0) (c .before .before .before .before .before .before .before .before .before .slot .given .1), filed-whole (c .before .before .before .before .before .before .before .before .before .before .before .before .before .before .before .before .before .before .before .before .before .before .args .rec .now) _ _ (sym (c .before .before .before .before .before .before .before .before .before .before .before .before .before .before .before .before .before .before .filed .ensures) ∙ c .before .before .before .before .before .before .before .before .before .before .before .before .before .before .before .before .c .given .1))
+store-at-requires c κs =
+    let at-slot = c .before .before .before .before .before .before .before .before .before in
+    let slot = at-slot .slot in
+    let at-if1 = at-slot .before .before in
+    let decide = at-if1 .before .decide in
+    let at-c = at-if1 .before .before .before .before .before in
+    let the-c = at-c .c in
+    let filed = at-c .before .before .filed in
+    let at-start = at-c .before .before .before .before .before .before .args in
+    let rec = at-start .rec .now in (
+      acts-slot (at-start .register .now) (at-start .guide .now) (at-start .header) rec _ _ (decide .result)
+          (sym (filed .ensures) ∙ the-c .given .1) (decide .ensures) (at-if1 .if1 .left) (slot .given .0 .0) (slot .given .1),
+      filed-whole rec _ _ (sym (filed .ensures) ∙ the-c .given .1),
+    )
 
 same-length-4 : tie.Need-same-length-4
 same-length-4 c = search needs
 
 returns-5 : tie.Need-returns-5
-returns-5 c = let q = acts-stored (c .before .before .before .before .before .before .before .before .before .before .before .before .before .before .before .before .before .before .before .before .before .before .before .before .before .args .register .now) (c .before .before .before .before .before .before .before .before .before .before .before .before .before .before .before .before .before .before .before .before .before .before .before .before .before .args .guide .now) (c .before .before .before .before .before .before .before .before .before .before .before .before .before .before .before .before .before .before .before .before .before .before .before .before .before .args .header) (c .before .before .before .before .before .before .before .before .before .before .before .before .before .before .before .before .before .before .before .before .before .before .before .before .before .args .rec .now) _ _ (c .before .before .before .before .before .before .before .before .before .before .before .before .before .before .before .decide .result) (sym (c .before .before .before .before .before .before .before .before .before .before .before .before .before .before .before .before .before .before .before .before .before .filed .ensures) ∙ c .before .before .before .before .before .before .before .before .before .before .before .before .before .before .before .before .before .before .before .c .given .1) (c .before .before .before .before .before .before .before .before .before .before .before .before .before .before .before .decide .ensures) (c .before .before .before .before .before .before .before .before .before .before .before .before .before .before .if1 .left) (c .before .before .before .before .before .before .before .before .before .before .before .before .slot .given .0 .0) (c .before .before .before .before .before .before .before .row .given .0 .0) (c .before .before .before .before .before .before .before .before .before .before .before .before .slot .given .1) (sym (c .before .before .before .before .before .before .before .before .before .before .does-store .ensures) ∙ c .before .before .before .before .before .before .before .before .before .if2 .taken) (c .before .before .before .before .before .before .before .row .given .1) in
-    (ap (λ (x : Step). x .answer) q, (rw (c .before .before .before .before .state-after .ensures, c .before .before .before .row-at .ensures) at (c .before .before .store-at .ensures)) ∙ ap (λ (x : Step). x .register) q)
+returns-5 c =
+    let at-store-at = c .before .before in
+    let row-at = at-store-at .before .row-at in
+    let state-after = at-store-at .before .before .state-after in
+    let at-row = at-store-at .before .before .before .before .before in
+    let row = at-row .row in
+    let at-if2 = at-row .before .before in
+    let does-store = at-if2 .before .does-store in
+    let slot = at-if2 .before .before .before .slot in
+    let at-if1 = at-if2 .before .before .before .before .before in
+    let decide = at-if1 .before .decide in
+    let at-c = at-if1 .before .before .before .before .before in
+    let filed = at-c .before .before .filed in
+    let at-start = at-c .before .before .before .before .before .before .args in
+    let q = acts-stored (at-start .register .now) (at-start .guide .now) (at-start .header) (at-start .rec .now) _ _ (decide .result)
+    (sym (filed .ensures) ∙ at-c .c .given .1) (decide .ensures) (at-if1 .if1 .left) (slot .given .0 .0) (row .given .0 .0) (slot .given .1)
+    (sym (does-store .ensures) ∙ at-if2 .if2 .taken) (row .given .1) in (
+      ap (λ (x : Step). x .answer) q,
+      (rw (state-after .ensures, row-at .ensures) at (at-store-at .store-at .ensures)) ∙ ap (λ (x : Step). x .register) q,
+    )
 
 state-after-requires-2 : tie.Need-state-after-requires-2
 state-after-requires-2 c κs = search needs
 
 restate-at-requires : tie.Need-restate-at-requires
-restate-at-requires c κs = acts-slot (c .before .before .before .before .before .before .before .before .before .before .before .before .before .before .before .before .before .before .args .register .now) (c .before .before .before .before .before .before .before .before .before .before .before .before .before .before .before .before .before .before .args .guide .now) (c .before .before .before .before .before .before .before .before .before .before .before .before .before .before .before .before .before .before .args .header) (c .before .before .before .before .before .before .before .before .before .before .before .before .before .before .before .before .before .before .args .rec .now) _ _ (c .before .before .before .before .before .before .before .before .decide .result) (sym (c .before .before .before .before .before .before .before .before .before .before .before .before .before .before .filed .ensures) ∙ c .before .before .before .before .before .before .before .before .before .before .before .before .c .given .1) (c .before .before .before .before .before .before .before .before .decide .ensures) (c .before .before .before .before .before .before .before .if1 .left) (c .before .before .before .before .before .slot .given .0 .0) (c .before .before .before .before .before .slot .given .1)
+restate-at-requires c κs =
+    let at-slot = c .before .before .before .before .before in
+    let slot = at-slot .slot in
+    let at-if1 = at-slot .before .before in
+    let decide = at-if1 .before .decide in
+    let at-c = at-if1 .before .before .before .before .before in
+    let filed = at-c .before .before .filed in
+    let at-start = at-c .before .before .before .before .before .before .args in
+    acts-slot (at-start .register .now) (at-start .guide .now) (at-start .header) (at-start .rec .now) _ _ (decide .result)
+    (sym (filed .ensures) ∙ at-c .c .given .1) (decide .ensures) (at-if1 .if1 .left) (slot .given .0 .0) (slot .given .1)
 
 same-length-5 : tie.Need-same-length-5
 same-length-5 c = search needs
 
 returns-6 : tie.Need-returns-6
-returns-6 c = let q = acts-kept (c .before .before .before .before .before .before .before .before .before .before .before .before .before .before .before .before .before .before .before .before .before .args .register .now) (c .before .before .before .before .before .before .before .before .before .before .before .before .before .before .before .before .before .before .before .before .before .args .guide .now) (c .before .before .before .before .before .before .before .before .before .before .before .before .before .before .before .before .before .before .before .before .before .args .header) (c .before .before .before .before .before .before .before .before .before .before .before .before .before .before .before .before .before .before .before .before .before .args .rec .now) _ _ (c .before .before .before .before .before .before .before .before .before .before .before .decide .result) (sym (c .before .before .before .before .before .before .before .before .before .before .before .before .before .before .before .before .before .filed .ensures) ∙ c .before .before .before .before .before .before .before .before .before .before .before .before .before .before .before .c .given .1) (c .before .before .before .before .before .before .before .before .before .before .before .decide .ensures) (c .before .before .before .before .before .before .before .before .before .before .if1 .left) (c .before .before .before .before .before .before .before .before .slot .given .0 .0) (c .before .before .before .before .before .before .before .before .slot .given .1) (sym (c .before .before .before .before .before .before .does-store .ensures) ∙ c .before .before .before .before .before .if2 .left) in
-    (ap (λ (x : Step). x .answer) q, (rw (c .before .before .before .state-after2 .ensures) at (c .before .before .restate-at .ensures)) ∙ ap (λ (x : Step). x .register) q)
+returns-6 c =
+    let at-restate-at = c .before .before in
+    let state-after2 = at-restate-at .before .state-after2 in
+    let at-if2 = at-restate-at .before .before .before in
+    let does-store = at-if2 .before .does-store in
+    let slot = at-if2 .before .before .before .slot in
+    let at-if1 = at-if2 .before .before .before .before .before in
+    let decide = at-if1 .before .decide in
+    let at-c = at-if1 .before .before .before .before .before in
+    let filed = at-c .before .before .filed in
+    let at-start = at-c .before .before .before .before .before .before .args in
+    let q = acts-kept (at-start .register .now) (at-start .guide .now) (at-start .header) (at-start .rec .now) _ _ (decide .result)
+    (sym (filed .ensures) ∙ at-c .c .given .1) (decide .ensures) (at-if1 .if1 .left) (slot .given .0 .0) (slot .given .1)
+    (sym (does-store .ensures) ∙ at-if2 .if2 .left) in (
+      ap (λ (x : Step). x .answer) q,
+      (rw (state-after2 .ensures) at (at-restate-at .restate-at .ensures)) ∙ ap (λ (x : Step). x .register) q,
+    )
 
 pub apply-record-spec : {M : Type 1} → statement M
 apply-record-spec =

@@ -18,11 +18,23 @@ find-number-requires : tie.Need-find-number-requires
 find-number-requires c κs = search needs
 
 early-answer-requires : tie.Need-early-answer-requires
-early-answer-requires c κs = ap (below (length (c .before .before .before .before .before .args .register .now) / 520)) (ap (λ (x : Sought). x .found) (rw (c .before .number .ensures) at (c .find-number .ensures))) ∙ find-below (hasNumber (numberOf (c .before .before .before .before .before .args .rec .now)) (c .before .before .before .before .before .args .register .now)) (length (c .before .before .before .before .before .args .register .now) / 520)
+early-answer-requires c κs =
+    let at-start = c .before .before .before .before .before .args in
+    let register = at-start .register .now in
+    ap (below (length register / 520)) (ap (λ (x : Sought). x .found) (rw (c .before .number .ensures) at (c .find-number .ensures)))
+    ∙ find-below (hasNumber (numberOf (at-start .rec .now)) register) (length register / 520)
 
 returns : tie.Need-returns
 unfolding findNumber
-returns c = decided-early (c .before .before .before .before .before .before .before .args .register .now) (c .before .before .before .before .before .before .before .args .guide .now) (c .before .before .before .before .before .before .before .args .today) (c .before .before .before .before .before .before .before .args .rec .now) (c .before .before .before .before .before .before .before .args .c) (c .before .before .before .before .before .before .before .args .d) (c .before .before .find-number .result .found) (c .before .early-answer .result) (ap (λ (x : Sought). x .found) (rw (c .before .before .before .number .ensures) at (c .before .before .find-number .ensures))) (c .before .early-answer .ensures) (c .if1 .taken)
+returns c =
+    let early-answer = c .before .early-answer in
+    let at-find-number = c .before .before in
+    let find-number = at-find-number .find-number in
+    let number = at-find-number .before .number in
+    let at-start = at-find-number .before .before .before .before .before .args in
+    decided-early (at-start .register .now) (at-start .guide .now) (at-start .today) (at-start .rec .now) (at-start .c) (at-start .d)
+    (find-number .result .found) (early-answer .result) (ap (λ (x : Sought). x .found) (rw (number .ensures) at (find-number .ensures)))
+    (early-answer .ensures) (c .if1 .taken)
 
 does-store-requires : tie.Need-does-store-requires
 does-store-requires c κs = search needs
@@ -32,11 +44,31 @@ decide-stored-requires c κs = search needs
 
 returns-2 : tie.Need-returns-2
 unfolding findNumber
-returns-2 c = decided-stored (c .before .before .before .before .before .before .before .before .before .before .args .register .now) (c .before .before .before .before .before .before .before .before .before .before .args .guide .now) (c .before .before .before .before .before .before .before .before .before .before .args .today) (c .before .before .before .before .before .before .before .before .before .before .args .rec .now) (c .before .before .before .before .before .before .before .before .before .before .args .c) (c .before .before .before .before .before .before .before .before .before .before .args .d) (c .before .before .before .before .before .find-number .result .found) (c .before .before .before .before .early-answer .result) (ap (λ (x : Sought). x .found) (rw (c .before .before .before .before .before .before .number .ensures) at (c .before .before .before .before .before .find-number .ensures))) (c .before .before .before .before .early-answer .ensures) (c .decide-stored .result) (c .before .before .before .if1 .left) (sym (c .before .before .does-store .ensures) ∙ c .before .if2 .taken) (c .decide-stored .ensures)
+returns-2 c =
+    let at-does-store = c .before .before in
+    let if1 = at-does-store .before .if1 in
+    let at-early-answer = at-does-store .before .before in
+    let early-answer = at-early-answer .early-answer in
+    let find-number = at-early-answer .before .find-number in
+    let number = at-early-answer .before .before .number in
+    let at-start = at-early-answer .before .before .before .before .before .before .args in
+    decided-stored (at-start .register .now) (at-start .guide .now) (at-start .today) (at-start .rec .now) (at-start .c) (at-start .d)
+    (find-number .result .found) (early-answer .result) (ap (λ (x : Sought). x .found) (rw (number .ensures) at (find-number .ensures)))
+    (early-answer .ensures) (c .decide-stored .result) (if1 .left) (sym (at-does-store .does-store .ensures) ∙ c .before .if2 .taken)
+    (c .decide-stored .ensures)
 
 returns-3 : tie.Need-returns-3
 unfolding findNumber
-returns-3 c = decided-kept (c .before .before .before .before .before .before .before .before .before .args .register .now) (c .before .before .before .before .before .before .before .before .before .args .guide .now) (c .before .before .before .before .before .before .before .before .before .args .today) (c .before .before .before .before .before .before .before .before .before .args .rec .now) (c .before .before .before .before .before .before .before .before .before .args .c) (c .before .before .before .before .before .before .before .before .before .args .d) (c .before .before .before .before .find-number .result .found) (c .before .before .before .early-answer .result) (ap (λ (x : Sought). x .found) (rw (c .before .before .before .before .before .number .ensures) at (c .before .before .before .before .find-number .ensures))) (c .before .before .before .early-answer .ensures) (c .before .before .if1 .left) (sym (c .before .does-store .ensures) ∙ c .if2 .left)
+returns-3 c =
+    let if1 = c .before .before .if1 in
+    let at-early-answer = c .before .before .before in
+    let early-answer = at-early-answer .early-answer in
+    let find-number = at-early-answer .before .find-number in
+    let number = at-early-answer .before .before .number in
+    let at-start = at-early-answer .before .before .before .before .before .before .args in
+    decided-kept (at-start .register .now) (at-start .guide .now) (at-start .today) (at-start .rec .now) (at-start .c) (at-start .d)
+    (find-number .result .found) (early-answer .result) (ap (λ (x : Sought). x .found) (rw (number .ensures) at (find-number .ensures)))
+    (early-answer .ensures) (if1 .left) (sym (c .before .does-store .ensures) ∙ c .if2 .left)
 
 pub decide-spec : {M : Type 1} → statement M
 decide-spec =

@@ -14,18 +14,35 @@ find-row-requires : tie.Need-find-row-requires
 find-row-requires c κs = search needs
 
 under-answer-requires : tie.Need-under-answer-requires
-under-answer-requires c κs = ap (below (length (c .before .before .before .before .args .guide .now) / 208)) (ap (λ (x : Sought). x .found) (c .find-row .ensures)) ∙ find-below (isOver (c .before .before .before .before .args .rec .now) (c .before .before .before .before .args .guide .now)) (length (c .before .before .before .before .args .guide .now) / 208)
+under-answer-requires c κs =
+    let at-start = c .before .before .before .before .args in
+    let guide = at-start .guide .now in
+    ap (below (length guide / 208)) (ap (λ (x : Sought). x .found) (c .find-row .ensures))
+    ∙ find-below (isOver (at-start .rec .now) guide) (length guide / 208)
 
 returns : tie.Need-returns
 unfolding findRow
-returns c = stored-refused (c .before .before .before .before .before .before .args .register .now) (c .before .before .before .before .before .before .args .guide .now) (c .before .before .before .before .before .before .args .today) (c .before .before .before .before .before .before .args .rec .now) (c .before .before .before .before .before .before .args .m) (c .before .before .find-row .result .found) (c .before .under-answer .result) (ap (λ (x : Sought). x .found) (c .before .before .find-row .ensures)) (c .before .under-answer .ensures) (c .if1 .taken)
+returns c =
+    let under-answer = c .before .under-answer in
+    let find-row = c .before .before .find-row in
+    let at-start = c .before .before .before .before .before .before .args in
+    stored-refused (at-start .register .now) (at-start .guide .now) (at-start .today) (at-start .rec .now) (at-start .m)
+    (find-row .result .found) (under-answer .result) (ap (λ (x : Sought). x .found) (find-row .ensures)) (under-answer .ensures)
+    (c .if1 .taken)
 
 settle-requires : tie.Need-settle-requires
 settle-requires c κs = search needs
 
 returns-2 : tie.Need-returns-2
 unfolding findRow
-returns-2 c = stored-settled (c .before .before .before .before .before .before .before .args .register .now) (c .before .before .before .before .before .before .before .args .guide .now) (c .before .before .before .before .before .before .before .args .today) (c .before .before .before .before .before .before .before .args .rec .now) (c .before .before .before .before .before .before .before .args .m) (c .before .before .before .find-row .result .found) (c .before .before .under-answer .result) (ap (λ (x : Sought). x .found) (c .before .before .before .find-row .ensures)) (c .before .before .under-answer .ensures) (c .settle .result) (c .before .if1 .left) (c .settle .ensures)
+returns-2 c =
+    let at-under-answer = c .before .before in
+    let under-answer = at-under-answer .under-answer in
+    let find-row = at-under-answer .before .find-row in
+    let at-start = at-under-answer .before .before .before .before .before .args in
+    stored-settled (at-start .register .now) (at-start .guide .now) (at-start .today) (at-start .rec .now) (at-start .m)
+    (find-row .result .found) (under-answer .result) (ap (λ (x : Sought). x .found) (find-row .ensures)) (under-answer .ensures)
+    (c .settle .result) (c .before .if1 .left) (c .settle .ensures)
 
 pub decide-stored-spec : {M : Type 1} → statement M
 decide-stored-spec =

@@ -20,22 +20,65 @@ state-answer-requires : tie.Need-state-answer-requires
 state-answer-requires c κs = search needs
 
 returns-2 : tie.Need-returns-2
-returns-2 c = early-state (c .before .before .before .before .before .before .before .args .register .now) (c .before .before .before .before .before .before .before .args .today) (c .before .before .before .before .before .before .before .args .rec .now) (c .before .before .before .before .before .before .before .args .c) (c .before .before .before .before .before .before .before .args .d) (c .before .before .before .before .before .before .before .args .m) (c .before .before .state-in .result) (c .before .state-answer .result) (sym (c .before .before .before .before .is-before .ensures) ∙ c .before .before .before .if1 .left) (c .before .before .state-in .ensures) (c .before .state-answer .ensures) (c .if2 .taken)
+returns-2 c =
+    let state-answer = c .before .state-answer in
+    let at-state-in = c .before .before in
+    let state-in = at-state-in .state-in in
+    let if1 = at-state-in .before .if1 in
+    let is-before = at-state-in .before .before .is-before in
+    let at-start = at-state-in .before .before .before .before .before .args in
+    early-state (at-start .register .now) (at-start .today) (at-start .rec .now) (at-start .c) (at-start .d) (at-start .m)
+    (state-in .result) (state-answer .result) (sym (is-before .ensures) ∙ if1 .left) (state-in .ensures) (state-answer .ensures)
+    (c .if2 .taken)
 
 is-foreign-requires : tie.Need-is-foreign-requires
 is-foreign-requires c κs = search needs
 
 returns-3 : tie.Need-returns-3
-returns-3 c = early-foreign (c .before .before .before .before .before .before .before .before .before .args .register .now) (c .before .before .before .before .before .before .before .before .before .args .today) (c .before .before .before .before .before .before .before .before .before .args .rec .now) (c .before .before .before .before .before .before .before .before .before .args .c) (c .before .before .before .before .before .before .before .before .before .args .d) (c .before .before .before .before .before .before .before .before .before .args .m) (c .before .before .before .before .state-in .result) (c .before .before .before .state-answer .result) (sym (c .before .before .before .before .before .before .is-before .ensures) ∙ c .before .before .before .before .before .if1 .left) (c .before .before .before .before .state-in .ensures) (c .before .before .before .state-answer .ensures) (c .before .before .if2 .left) (sym (c .before .is-foreign .ensures) ∙ c .if3 .taken)
+returns-3 c =
+    let at-if2 = c .before .before in
+    let state-answer = at-if2 .before .state-answer in
+    let at-state-in = at-if2 .before .before in
+    let state-in = at-state-in .state-in in
+    let if1 = at-state-in .before .if1 in
+    let is-before = at-state-in .before .before .is-before in
+    let at-start = at-state-in .before .before .before .before .before .args in
+    early-foreign (at-start .register .now) (at-start .today) (at-start .rec .now) (at-start .c) (at-start .d) (at-start .m)
+    (state-in .result) (state-answer .result) (sym (is-before .ensures) ∙ if1 .left) (state-in .ensures) (state-answer .ensures)
+    (at-if2 .if2 .left) (sym (c .before .is-foreign .ensures) ∙ c .if3 .taken)
 
 is-too-early-requires : tie.Need-is-too-early-requires
 is-too-early-requires c κs = search needs
 
 returns-4 : tie.Need-returns-4
-returns-4 c = early-day (c .before .before .before .before .before .before .before .before .before .before .before .args .register .now) (c .before .before .before .before .before .before .before .before .before .before .before .args .today) (c .before .before .before .before .before .before .before .before .before .before .before .args .rec .now) (c .before .before .before .before .before .before .before .before .before .before .before .args .c) (c .before .before .before .before .before .before .before .before .before .before .before .args .d) (c .before .before .before .before .before .before .before .before .before .before .before .args .m) (c .before .before .before .before .before .before .state-in .result) (c .before .before .before .before .before .state-answer .result) (sym (c .before .before .before .before .before .before .before .before .is-before .ensures) ∙ c .before .before .before .before .before .before .before .if1 .left) (c .before .before .before .before .before .before .state-in .ensures) (c .before .before .before .before .before .state-answer .ensures) (c .before .before .before .before .if2 .left) (sym (c .before .before .before .is-foreign .ensures) ∙ c .before .before .if3 .left) (sym (c .before .is-too-early .ensures) ∙ c .if4 .taken)
+returns-4 c =
+    let if3 = c .before .before .if3 in
+    let at-is-foreign = c .before .before .before in
+    let if2 = at-is-foreign .before .if2 in
+    let state-answer = at-is-foreign .before .before .state-answer in
+    let at-state-in = at-is-foreign .before .before .before in
+    let state-in = at-state-in .state-in in
+    let if1 = at-state-in .before .if1 in
+    let is-before = at-state-in .before .before .is-before in
+    let at-start = at-state-in .before .before .before .before .before .args in
+    early-day (at-start .register .now) (at-start .today) (at-start .rec .now) (at-start .c) (at-start .d) (at-start .m) (state-in .result)
+    (state-answer .result) (sym (is-before .ensures) ∙ if1 .left) (state-in .ensures) (state-answer .ensures) (if2 .left)
+    (sym (at-is-foreign .is-foreign .ensures) ∙ if3 .left) (sym (c .before .is-too-early .ensures) ∙ c .if4 .taken)
 
 returns-5 : tie.Need-returns-5
-returns-5 c = early-none (c .before .before .before .before .before .before .before .before .before .before .before .args .register .now) (c .before .before .before .before .before .before .before .before .before .before .before .args .today) (c .before .before .before .before .before .before .before .before .before .before .before .args .rec .now) (c .before .before .before .before .before .before .before .before .before .before .before .args .c) (c .before .before .before .before .before .before .before .before .before .before .before .args .d) (c .before .before .before .before .before .before .before .before .before .before .before .args .m) (c .before .before .before .before .before .before .state-in .result) (c .before .before .before .before .before .state-answer .result) (sym (c .before .before .before .before .before .before .before .before .is-before .ensures) ∙ c .before .before .before .before .before .before .before .if1 .left) (c .before .before .before .before .before .before .state-in .ensures) (c .before .before .before .before .before .state-answer .ensures) (c .before .before .before .before .if2 .left) (sym (c .before .before .before .is-foreign .ensures) ∙ c .before .before .if3 .left) (sym (c .before .is-too-early .ensures) ∙ c .if4 .left)
+returns-5 c =
+    let if3 = c .before .before .if3 in
+    let at-is-foreign = c .before .before .before in
+    let if2 = at-is-foreign .before .if2 in
+    let state-answer = at-is-foreign .before .before .state-answer in
+    let at-state-in = at-is-foreign .before .before .before in
+    let state-in = at-state-in .state-in in
+    let if1 = at-state-in .before .if1 in
+    let is-before = at-state-in .before .before .is-before in
+    let at-start = at-state-in .before .before .before .before .before .args in
+    early-none (at-start .register .now) (at-start .today) (at-start .rec .now) (at-start .c) (at-start .d) (at-start .m) (state-in .result)
+    (state-answer .result) (sym (is-before .ensures) ∙ if1 .left) (state-in .ensures) (state-answer .ensures) (if2 .left)
+    (sym (at-is-foreign .is-foreign .ensures) ∙ if3 .left) (sym (c .before .is-too-early .ensures) ∙ c .if4 .left)
 
 pub early-answer-spec : {M : Type 1} → statement M
 early-answer-spec =

@@ -19,7 +19,9 @@ find-reusable-requires c κs = search needs
 
 returns : tie.Need-returns
 unfolding findSpare findFree findReusable
-returns c = let e = ap (λ (x : Sought). x .found) (c .before .before .before .find-free .ensures) in
+returns c =
+    let find-free = c .before .before .before .find-free in
+    let e = ap (λ (x : Sought). x .found) (find-free .ensures) in
     let f = ap (λ (x : Sought). x .found) (c .find-reusable .ensures) in
     rw (← e, c .before .enum-told2 .given .1) f
 

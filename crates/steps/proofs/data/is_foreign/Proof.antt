@@ -13,10 +13,17 @@ is-other-company-requires : tie.Need-is-other-company-requires
 is-other-company-requires c κs = search needs
 
 returns : tie.Need-returns
-returns c = and-taken (isOwn (c .before .before .before .before .before .args .c)) (isHeld (c .before .before .before .before .before .args .state)) (otherCompany (c .before .before .before .before .before .args .register .now) (c .before .before .before .before .before .args .m) (c .before .before .before .before .before .args .rec .now)) (rw (← c .before .before .is-own .ensures) (c .before .if1 .taken)) (c .is-other-company .ensures)
+returns c =
+    let is-own = c .before .before .is-own in
+    let at-start = c .before .before .before .before .before .args in
+    and-taken (isOwn (at-start .c)) (isHeld (at-start .state)) (otherCompany (at-start .register .now) (at-start .m) (at-start .rec .now))
+    (rw (← is-own .ensures) (c .before .if1 .taken)) (c .is-other-company .ensures)
 
 returns-2 : tie.Need-returns-2
-returns-2 c = and-left-out (isOwn (c .before .before .before .before .args .c)) (isHeld (c .before .before .before .before .args .state)) (otherCompany (c .before .before .before .before .args .register .now) (c .before .before .before .before .args .m) (c .before .before .before .before .args .rec .now)) (rw (← c .before .is-own .ensures) (c .if1 .left))
+returns-2 c =
+    let at-start = c .before .before .before .before .args in
+    and-left-out (isOwn (at-start .c)) (isHeld (at-start .state))
+    (otherCompany (at-start .register .now) (at-start .m) (at-start .rec .now)) (rw (← c .before .is-own .ensures) (c .if1 .left))
 
 pub is-foreign-spec : {M : Type 1} → statement M
 is-foreign-spec = tie.close (tie.spec is-own-requires is-other-company-requires returns returns-2)

@@ -16,7 +16,10 @@ returns : tie.Need-returns
 returns c = rw (c .enum-told .given .1)
 
 slot-at-requires : tie.Need-slot-at-requires
-slot-at-requires c κs = below-at (length (c .before .before .before .before .before .args .register .now) / 520) (c .before .before .before .before .before .args .m) (c .before .m .given .0 .0) (c .before .m .given .1) (c .before .before .before .before .before .pre)
+slot-at-requires c κs =
+    let m = c .before .m in
+    let at-start = c .before .before .before .before .before in
+    below-at (length (at-start .args .register .now) / 520) (at-start .args .m) (m .given .0 .0) (m .given .1) (at-start .pre)
 
 rec-requires : tie.Need-rec-requires
 rec-requires c κs = search needs
@@ -31,7 +34,12 @@ same-requires : tie.Need-same-requires
 same-requires c κs = search needs
 
 returns-2 : tie.Need-returns-2
-returns-2 c = rw (c .before .before .before .before .before .before .m .given .1, ← c .before .before .before .before .slot-at .ensures, ← c .before .before .before .rec .ensures, ← c .before .before .company .ensures, ← c .before .company2 .ensures, ← c .same .ensures)
+returns-2 c =
+    let at-company = c .before .before in
+    let rec = at-company .before .rec in
+    let slot-at = at-company .before .before .slot-at in
+    let m = at-company .before .before .before .before .m in
+    rw (m .given .1, ← slot-at .ensures, ← rec .ensures, ← at-company .company .ensures, ← c .before .company2 .ensures, ← c .same .ensures)
 
 pub is-other-company-spec : {M : Type 1} → statement M
 is-other-company-spec =

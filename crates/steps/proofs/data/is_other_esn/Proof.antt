@@ -22,7 +22,11 @@ esn-requires : tie.Need-esn-requires
 esn-requires c κs = search needs
 
 row-at-requires : tie.Need-row-at-requires
-row-at-requires c κs = below-at (length (c .before .before .before .before .before .before .before .before .args .guide .now) / 208) (c .before .before .before .before .before .before .before .before .args .k) (c .before .before .before .before .k .given .0 .0) (c .before .before .before .before .k .given .1) (c .before .before .before .before .before .before .before .before .pre)
+row-at-requires c κs =
+    let at-k = c .before .before .before .before in
+    let k = at-k .k in
+    let at-start = at-k .before .before .before .before in
+    below-at (length (at-start .args .guide .now) / 208) (at-start .args .k) (k .given .0 .0) (k .given .1) (at-start .pre)
 
 row-esn-requires : tie.Need-row-esn-requires
 row-esn-requires c κs = search needs
@@ -31,7 +35,21 @@ same-esn-requires : tie.Need-same-esn-requires
 same-esn-requires c κs = search needs
 
 returns-2 : tie.Need-returns-2
-returns-2 c = rw (c .before .before .before .before .before .before .before .k .given .1, ← c .before .before .before .before .before .has-esn .ensures, c .before .before .before .before .if1 .taken, ← c .before .before .before .esn .ensures, ← c .before .before .row-at .ensures, ← c .before .row-esn .ensures, ← c .same-esn .ensures)
+returns-2 c =
+    let row-at = c .before .before .row-at in
+    let at-esn = c .before .before .before in
+    let if1 = at-esn .before .if1 in
+    let has-esn = at-esn .before .before .has-esn in
+    let k = at-esn .before .before .before .before .k in
+    rw (
+      k .given .1,
+      ← has-esn .ensures,
+      if1 .taken,
+      ← at-esn .esn .ensures,
+      ← row-at .ensures,
+      ← c .before .row-esn .ensures,
+      ← c .same-esn .ensures,
+    )
 
 returns-3 : tie.Need-returns-3
 returns-3 c = rw (c .before .before .before .k .given .1, ← c .before .has-esn .ensures, c .if1 .left)

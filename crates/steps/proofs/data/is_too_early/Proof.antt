@@ -16,7 +16,10 @@ returns : tie.Need-returns
 returns c = rw (c .enum-told .given .1)
 
 slot-at-requires : tie.Need-slot-at-requires
-slot-at-requires c κs = below-at (length (c .before .before .before .before .args .register .now) / 520) (c .before .before .before .before .args .m) (c .before .m .given .0 .0) (c .before .m .given .1) (c .before .before .before .before .pre)
+slot-at-requires c κs =
+    let m = c .before .m in
+    let at-start = c .before .before .before .before in
+    below-at (length (at-start .args .register .now) / 520) (at-start .args .m) (m .given .0 .0) (m .given .1) (at-start .pre)
 
 day-requires : tie.Need-day-requires
 day-requires c κs = search needs
@@ -28,13 +31,23 @@ is-before-requires : tie.Need-is-before-requires
 is-before-requires c κs = search needs
 
 returns-2 : tie.Need-returns-2
-returns-2 c = rw (c .before .before .before .before .before .before .m .given .1, ← c .before .before .before .before .slot-at .ensures, ← c .before .before .before .day .ensures, ← c .before .before .is-insert .ensures, c .before .if1 .taken, ← c .is-before .ensures)
+returns-2 c =
+    let at-is-insert = c .before .before in
+    let day = at-is-insert .before .day in
+    let slot-at = at-is-insert .before .before .slot-at in
+    let m = at-is-insert .before .before .before .before .m in
+    rw (m .given .1, ← slot-at .ensures, ← day .ensures, ← at-is-insert .is-insert .ensures, c .before .if1 .taken, ← c .is-before .ensures)
 
 is-before-requires-2 : tie.Need-is-before-requires-2
 is-before-requires-2 c κs = search needs
 
 returns-3 : tie.Need-returns-3
-returns-3 c = rw (c .before .before .before .before .before .before .m .given .1, ← c .before .before .before .before .slot-at .ensures, ← c .before .before .before .day .ensures, ← c .before .before .is-insert .ensures, c .before .if1 .left) (c .is-before2 .ensures)
+returns-3 c =
+    let at-is-insert = c .before .before in
+    let day = at-is-insert .before .day in
+    let slot-at = at-is-insert .before .before .slot-at in
+    let m = at-is-insert .before .before .before .before .m in
+    rw (m .given .1, ← slot-at .ensures, ← day .ensures, ← at-is-insert .is-insert .ensures, c .before .if1 .left) (c .is-before2 .ensures)
 
 pub is-too-early-spec : {M : Type 1} → statement M
 is-too-early-spec =

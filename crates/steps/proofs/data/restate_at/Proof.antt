@@ -29,11 +29,18 @@ same-length : tie.Need-same-length
 same-length c = search needs
 
 returns : tie.Need-returns
-returns c = place-back 520 (c .before .before .before .before .before .args .register .now) (c .before .before .before .before .before .args .i) (c .before .before .restate .last .0)
-    ∙ ap (withSlot (c .before .before .before .before .before .args .register .now) (c .before .before .before .before .before .args .i))
-    (c .before .before .restate .ensures
-    ∙ ap (restated (c .before .before .before .before .before .args .state) (c .before .before .before .before .before .args .d)) (place-part 520 (c .before .before .before .before .before .args .register .now) (c .before .before .before .before .before .args .i))
-    ∙ restated-slot (c .before .before .before .before .before .args .state) (c .before .before .before .before .before .args .d) (slotAt (c .before .before .before .before .before .args .register .now) (c .before .before .before .before .before .args .i)) (length-slot-at (c .before .before .before .before .before .args .register .now) (c .before .before .before .before .before .args .i) (c .before .before .before .before .before .pre)))
+returns c =
+    let restate = c .before .before .restate in
+    let at-start = c .before .before .before .before .before in
+    let i = at-start .args .i in
+    let state = at-start .args .state in
+    let d = at-start .args .d in
+    let register = at-start .args .register .now in
+    place-back 520 register i (restate .last .0)
+    ∙ ap (withSlot register i)
+    (restate .ensures
+    ∙ ap (restated state d) (place-part 520 register i)
+    ∙ restated-slot state d (slotAt register i) (length-slot-at register i (at-start .pre)))
 
 pub restate-at-spec : {M : Type 1} → statement M
 restate-at-spec =

@@ -15,25 +15,65 @@ returns c = rw (← c .before .before .is-insert .ensures, ← c .before .is-liv
 
 returns-2 : tie.Need-returns-2
 unfolding first
-returns-2 c = rw (← c .before .before .before .is-insert .ensures, ← c .before .before .is-live .ensures, c .before .if1 .left, c .if2 .taken)
+returns-2 c =
+    let is-live = c .before .before .is-live in
+    let is-insert = c .before .before .before .is-insert in
+    rw (← is-insert .ensures, ← is-live .ensures, c .before .if1 .left, c .if2 .taken)
 
 is-migrate-requires : tie.Need-is-migrate-requires
 is-migrate-requires c κs = search needs
 
 returns-3 : tie.Need-returns-3
 unfolding first
-returns-3 c = rw (← c .before .before .before .before .before .is-insert .ensures, ← c .before .before .before .before .is-live .ensures, c .before .before .before .if1 .left, c .before .before .if2 .left, ← c .before .is-migrate .ensures, c .if3 .taken)
+returns-3 c =
+    let at-if2 = c .before .before in
+    let if1 = at-if2 .before .if1 in
+    let is-live = at-if2 .before .before .is-live in
+    let is-insert = at-if2 .before .before .before .is-insert in
+    rw (← is-insert .ensures, ← is-live .ensures, if1 .left, at-if2 .if2 .left, ← c .before .is-migrate .ensures, c .if3 .taken)
 
 is-own-requires : tie.Need-is-own-requires
 is-own-requires c κs = search needs
 
 returns-4 : tie.Need-returns-4
 unfolding first
-returns-4 c = rw (← c .before .before .before .before .before .before .before .is-insert .ensures, ← c .before .before .before .before .before .before .is-live .ensures, c .before .before .before .before .before .if1 .left, c .before .before .before .before .if2 .left, ← c .before .before .before .is-migrate .ensures, c .before .before .if3 .left, ← c .before .is-own .ensures, c .if4 .taken)
+returns-4 c =
+    let at-if3 = c .before .before in
+    let is-migrate = at-if3 .before .is-migrate in
+    let at-if2 = at-if3 .before .before in
+    let if1 = at-if2 .before .if1 in
+    let is-live = at-if2 .before .before .is-live in
+    let is-insert = at-if2 .before .before .before .is-insert in
+    rw (
+      ← is-insert .ensures,
+      ← is-live .ensures,
+      if1 .left,
+      at-if2 .if2 .left,
+      ← is-migrate .ensures,
+      at-if3 .if3 .left,
+      ← c .before .is-own .ensures,
+      c .if4 .taken,
+    )
 
 returns-5 : tie.Need-returns-5
 unfolding first
-returns-5 c = rw (← c .before .before .before .before .before .before .before .is-insert .ensures, ← c .before .before .before .before .before .before .is-live .ensures, c .before .before .before .before .before .if1 .left, c .before .before .before .before .if2 .left, ← c .before .before .before .is-migrate .ensures, c .before .before .if3 .left, ← c .before .is-own .ensures, c .if4 .left)
+returns-5 c =
+    let at-if3 = c .before .before in
+    let is-migrate = at-if3 .before .is-migrate in
+    let at-if2 = at-if3 .before .before in
+    let if1 = at-if2 .before .if1 in
+    let is-live = at-if2 .before .before .is-live in
+    let is-insert = at-if2 .before .before .before .is-insert in
+    rw (
+      ← is-insert .ensures,
+      ← is-live .ensures,
+      if1 .left,
+      at-if2 .if2 .left,
+      ← is-migrate .ensures,
+      at-if3 .if3 .left,
+      ← c .before .is-own .ensures,
+      c .if4 .left,
+    )
 
 pub state-answer-spec : {M : Type 1} → statement M
 state-answer-spec =

@@ -16,7 +16,10 @@ returns : tie.Need-returns
 returns c = rw (c .enum-told .given .1)
 
 slot-at-requires : tie.Need-slot-at-requires
-slot-at-requires c κs = below-at (length (c .before .before .before .before .args .register .now) / 520) (c .before .before .before .before .args .m) (c .before .m .given .0 .0) (c .before .m .given .1) (c .before .before .before .before .pre)
+slot-at-requires c κs =
+    let m = c .before .m in
+    let at-start = c .before .before .before .before in
+    below-at (length (at-start .args .register .now) / 520) (at-start .args .m) (m .given .0 .0) (m .given .1) (at-start .pre)
 
 state-requires : tie.Need-state-requires
 state-requires c κs = search needs

@@ -28,7 +28,12 @@ same-length : tie.Need-same-length
 same-length c = search needs
 
 returns : tie.Need-returns
-returns c = place-back 520 (c .before .before .before .before .before .before .before .args .register .now) (c .before .before .before .before .before .before .before .args .i) (c .before .before .write-shown .last .0) ∙ ap (withSlot (c .before .before .before .before .before .before .before .args .register .now) (c .before .before .before .before .before .before .before .args .i)) (c .before .before .write-shown .ensures)
+returns c =
+    let write-shown = c .before .before .write-shown in
+    let at-start = c .before .before .before .before .before .before .before .args in
+    let i = at-start .i in
+    let register = at-start .register .now in
+    place-back 520 register i (write-shown .last .0) ∙ ap (withSlot register i) (write-shown .ensures)
 
 pub store-at-spec : {M : Type 1} → statement M
 store-at-spec =

@@ -18,8 +18,13 @@ same-length c = search needs
 
 returns : tie.Need-returns
 unfolding shown
-returns c = rw (← c .before .has-esn .ensures, c .if1 .taken)
-    (c .before .before .before .before .write-slot .ensures ∙ written-slot (c .before .before .before .before .before .before .before .before .before .args .state) (c .before .before .before .before .before .before .before .before .before .args .d) (c .before .before .before .before .before .before .before .before .before .args .rec .now) (c .before .before .before .before .before .before .before .before .before .args .slot .now) (c .before .before .before .before .before .before .before .before .before .pre .1) (c .before .before .before .before .before .before .before .before .before .pre .0))
+returns c =
+    let at-write-slot = c .before .before .before .before in
+    let at-start = at-write-slot .before .before .before .before .before in
+    let pre = at-start .pre in
+    rw (← c .before .has-esn .ensures, c .if1 .taken)
+    (at-write-slot .write-slot .ensures
+    ∙ written-slot (at-start .args .state) (at-start .args .d) (at-start .args .rec .now) (at-start .args .slot .now) (pre .1) (pre .0))
 
 sub-fill-esn : tie.Need-sub-fill-esn
 sub-fill-esn c = search needs
@@ -41,10 +46,22 @@ same-length-2 c = search needs
 
 returns-2 : tie.Need-returns-2
 unfolding shown
-returns-2 c = rw (← c .before .before .before .before .before .before .has-esn .ensures, c .before .before .before .before .before .if1 .left, ← c .before .before .before .row-esn .ensures)
-    (fill-slot (c .before .before .before .before .before .before .before .before .before .before .before .before .before .before .args .state) (c .before .before .before .before .before .before .before .before .before .before .before .before .before .before .args .d) (c .before .before .before .before .before .before .before .before .before .before .before .before .before .before .args .rec .now) (now (c .before .before .before .row-esn .result)) (c .before .before .before .before .before .before .before .before .before .write-slot .last .0) (c .before .before .fill-esn .last .0) (c .before .before .before .before .before .before .before .before .before .before .before .before .before .before .pre .1)
-    (c .before .before .before .before .before .before .before .before .before .write-slot .ensures ∙ written-slot (c .before .before .before .before .before .before .before .before .before .before .before .before .before .before .args .state) (c .before .before .before .before .before .before .before .before .before .before .before .before .before .before .args .d) (c .before .before .before .before .before .before .before .before .before .before .before .before .before .before .args .rec .now) (c .before .before .before .before .before .before .before .before .before .before .before .before .before .before .args .slot .now) (c .before .before .before .before .before .before .before .before .before .before .before .before .before .before .pre .1) (c .before .before .before .before .before .before .before .before .before .before .before .before .before .before .pre .0))
-    (c .before .before .fill-esn .ensures))
+returns-2 c =
+    let at-fill-esn = c .before .before in
+    let fill-esn = at-fill-esn .fill-esn in
+    let row-esn = at-fill-esn .before .row-esn in
+    let at-if1 = at-fill-esn .before .before .before in
+    let has-esn = at-if1 .before .has-esn in
+    let at-write-slot = at-if1 .before .before .before .before in
+    let write-slot = at-write-slot .write-slot in
+    let at-start = at-write-slot .before .before .before .before .before in
+    let pre = at-start .pre in
+    let state = at-start .args .state in
+    let d = at-start .args .d in
+    let rec = at-start .args .rec .now in
+    rw (← has-esn .ensures, at-if1 .if1 .left, ← row-esn .ensures)
+    (fill-slot state d rec (now (row-esn .result)) (write-slot .last .0) (fill-esn .last .0) (pre .1)
+    (write-slot .ensures ∙ written-slot state d rec (at-start .args .slot .now) (pre .1) (pre .0)) (fill-esn .ensures))
 
 pub write-shown-spec : {M : Type 1} → statement M
 write-shown-spec =

@@ -25,7 +25,9 @@ row-requires : tie.Need-row-requires
 row-requires c κs = search needs
 
 returns : tie.Need-returns
-returns c = c .row .ensures ∙ ap rowOf (place-part 208 (c .before .before .before .args .guide .now) (c .before .before .before .args .k))
+returns c =
+    let at-start = c .before .before .before .args in
+    c .row .ensures ∙ ap rowOf (place-part 208 (at-start .guide .now) (at-start .k))
 
 pub row-at-spec : {M : Type 1} → statement M
 row-at-spec =

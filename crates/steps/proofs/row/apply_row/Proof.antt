@@ -14,7 +14,10 @@ enum-told : tie.Need-enum-told
 enum-told c = search needs
 
 insert-row-requires : tie.Need-insert-row-requires
-insert-row-requires c κs = row-whole (c .before .before .before .before .before .before .before .args .row .now) (sym (c .before .before .before .row-code .ensures) ∙ c .before .enum-told .given .1)
+insert-row-requires c κs =
+    let row-code = c .before .before .before .row-code in
+    let row = c .before .before .before .before .before .before .before .args .row .now in
+    row-whole row (sym (row-code .ensures) ∙ c .before .enum-told .given .1)
 
 enum-told-2 : tie.Need-enum-told-2
 enum-told-2 c = search needs
@@ -30,18 +33,34 @@ same-length c = search needs
 
 returns : tie.Need-returns
 unfolding rowStep rowApplied
-returns c = (rw (← c .before .before .before .before .before .before .row-code .ensures, c .before .before .before .before .enum-told .given .1) (c .before .before .insert-row .ensures .0), rw (← c .before .before .before .before .before .before .row-code .ensures, c .before .before .before .before .enum-told .given .1) (c .before .before .insert-row .ensures .1))
+returns c =
+    let at-insert-row = c .before .before in
+    let insert-row = at-insert-row .insert-row in
+    let the-enum-told = at-insert-row .before .before .enum-told in
+    let row-code = at-insert-row .before .before .before .before .row-code in (
+      rw (← row-code .ensures, the-enum-told .given .1) (insert-row .ensures .0),
+      rw (← row-code .ensures, the-enum-told .given .1) (insert-row .ensures .1),
+    )
 
 same-length-2 : tie.Need-same-length-2
 same-length-2 c = search needs
 
 returns-2 : tie.Need-returns-2
 unfolding rowStep rowApplied
-returns-2 c = (rw (← c .before .before .before .before .before .before .row-code .ensures, c .before .before .before .before .enum-told2 .given .1) (c .before .before .delete-row .ensures .0), rw (← c .before .before .before .before .before .before .row-code .ensures, c .before .before .before .before .enum-told2 .given .1) (c .before .before .delete-row .ensures .1))
+returns-2 c =
+    let at-delete-row = c .before .before in
+    let delete-row = at-delete-row .delete-row in
+    let enum-told2 = at-delete-row .before .before .enum-told2 in
+    let row-code = at-delete-row .before .before .before .before .row-code in (
+      rw (← row-code .ensures, enum-told2 .given .1) (delete-row .ensures .0),
+      rw (← row-code .ensures, enum-told2 .given .1) (delete-row .ensures .1),
+    )
 
 returns-3 : tie.Need-returns-3
 unfolding rowStep rowApplied
-returns-3 c = (rw (← c .before .before .row-code .ensures, c .enum-told3 .given .1), rw (← c .before .before .row-code .ensures, c .enum-told3 .given .1))
+returns-3 c =
+    let row-code = c .before .before .row-code in
+    (rw (← row-code .ensures, c .enum-told3 .given .1), rw (← row-code .ensures, c .enum-told3 .given .1))
 
 pub apply-row-spec : {M : Type 1} → statement M
 apply-row-spec =

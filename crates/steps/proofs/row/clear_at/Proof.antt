@@ -32,11 +32,14 @@ same-length c = search needs
 
 returns : tie.Need-returns
 unfolding freeRowSlot
-returns c = place-back 208 (c .before .before .before .before .before .args .guide .now) (c .before .before .before .before .before .args .k) (c .before .before .clear-row .last .0)
-    ∙ ap (withRowSlot (c .before .before .before .before .before .args .guide .now) (c .before .before .before .before .before .args .k))
-    (c .before .before .clear-row .ensures
-    ∙ ap (λ (n : ℕ). replicate n 0)
-    (ap length (place-part 208 (c .before .before .before .before .before .args .guide .now) (c .before .before .before .before .before .args .k)) ∙ length-row-slot-at (c .before .before .before .before .before .args .guide .now) (c .before .before .before .before .before .args .k) (c .before .before .before .before .before .pre)))
+returns c =
+    let clear-row = c .before .before .clear-row in
+    let at-start = c .before .before .before .before .before in
+    let k = at-start .args .k in
+    let guide = at-start .args .guide .now in
+    place-back 208 guide k (clear-row .last .0)
+    ∙ ap (withRowSlot guide k)
+    (clear-row .ensures ∙ ap (λ (n : ℕ). replicate n 0) (ap length (place-part 208 guide k) ∙ length-row-slot-at guide k (at-start .pre)))
 
 pub clear-at-spec : {M : Type 1} → statement M
 clear-at-spec =

@@ -25,10 +25,21 @@ same-length c = search needs
 
 returns : tie.Need-returns
 unfolding rowStep findSame findEntry first
-returns c = (rw (← (ap (λ (x : Sought). x .found) (c .before .before .find-same .ensures)), c .enum-told .given .1), rw (← (ap (λ (x : Sought). x .found) (c .before .before .find-same .ensures)), c .enum-told .given .1))
+returns c =
+    let find-same = c .before .before .find-same in (
+      rw (← (ap (λ (x : Sought). x .found) (find-same .ensures)), c .enum-told .given .1),
+      rw (← (ap (λ (x : Sought). x .found) (find-same .ensures)), c .enum-told .given .1),
+    )
 
 row-at-requires : tie.Need-row-at-requires
-row-at-requires c κs = find-some (sameAt (c .before .before .before .before .before .before .before .before .before .args .row .now) (c .before .before .before .before .before .before .before .before .before .args .guide .now)) (length (c .before .before .before .before .before .before .before .before .before .args .guide .now) / 208) (c .before .before .place .given .0 .0) (sym (ap (λ (x : Sought). x .found) (c .before .before .before .before .find-same .ensures)) ∙ c .before .before .place .given .1) .0
+row-at-requires c κs =
+    let at-place = c .before .before in
+    let place = at-place .place in
+    let find-same = at-place .before .before .find-same in
+    let at-start = at-place .before .before .before .before .before .before .before .args in
+    let guide = at-start .guide .now in
+    find-some (sameAt (at-start .row .now) guide) (length guide / 208) (place .given .0 .0)
+    (sym (ap (λ (x : Sought). x .found) (find-same .ensures)) ∙ place .given .1) .0
 
 find-entry-requires : tie.Need-find-entry-requires
 find-entry-requires c κs = search needs
@@ -44,17 +55,64 @@ same-length-2 c = search needs
 
 returns-2 : tie.Need-returns-2
 unfolding rowStep findSame findEntry first
-returns-2 c = (rw (← (ap (λ (x : Sought). x .found) (c .before .before .before .before .before .before .before .before .find-same .ensures)), c .before .before .before .before .before .before .place .given .1, ← (ap (λ (x : Sought). x .found) (rw (c .before .before .before .row-at .ensures) at (c .before .before .find-entry .ensures))), c .enum-told3 .given .1), rw (← (ap (λ (x : Sought). x .found) (c .before .before .before .before .before .before .before .before .find-same .ensures)), c .before .before .before .before .before .before .place .given .1, ← (ap (λ (x : Sought). x .found) (rw (c .before .before .before .row-at .ensures) at (c .before .before .find-entry .ensures))), c .enum-told3 .given .1))
+returns-2 c =
+    let at-find-entry = c .before .before in
+    let find-entry = at-find-entry .find-entry in
+    let row-at = at-find-entry .before .row-at in
+    let at-place = at-find-entry .before .before .before .before in
+    let place = at-place .place in
+    let find-same = at-place .before .before .find-same in (
+      rw (
+        ← (ap (λ (x : Sought). x .found) (find-same .ensures)),
+        place .given .1,
+        ← (ap (λ (x : Sought). x .found) (rw (row-at .ensures) at (find-entry .ensures))),
+        c .enum-told3 .given .1,
+      ),
+      rw (
+        ← (ap (λ (x : Sought). x .found) (find-same .ensures)),
+        place .given .1,
+        ← (ap (λ (x : Sought). x .found) (rw (row-at .ensures) at (find-entry .ensures))),
+        c .enum-told3 .given .1,
+      ),
+    )
 
 clear-at-requires : tie.Need-clear-at-requires
-clear-at-requires c κs = find-some (sameAt (c .before .before .before .before .before .before .before .before .before .before .before .before .before .before .args .row .now) (c .before .before .before .before .before .before .before .before .before .before .before .before .before .before .args .guide .now)) (length (c .before .before .before .before .before .before .before .before .before .before .before .before .before .before .args .guide .now) / 208) (c .before .before .before .before .before .before .before .place .given .0 .0) (sym (ap (λ (x : Sought). x .found) (c .before .before .before .before .before .before .before .before .before .find-same .ensures)) ∙ c .before .before .before .before .before .before .before .place .given .1) .0
+clear-at-requires c κs =
+    let at-place = c .before .before .before .before .before .before .before in
+    let place = at-place .place in
+    let find-same = at-place .before .before .find-same in
+    let at-start = at-place .before .before .before .before .before .before .before .args in
+    let guide = at-start .guide .now in
+    find-some (sameAt (at-start .row .now) guide) (length guide / 208) (place .given .0 .0)
+    (sym (ap (λ (x : Sought). x .found) (find-same .ensures)) ∙ place .given .1) .0
 
 same-length-3 : tie.Need-same-length-3
 same-length-3 c = search needs
 
 returns-3 : tie.Need-returns-3
 unfolding rowStep findSame findEntry first
-returns-3 c = (rw (← (ap (λ (x : Sought). x .found) (c .before .before .before .before .before .before .before .before .before .before .before .before .find-same .ensures)), c .before .before .before .before .before .before .before .before .before .before .place .given .1, ← (ap (λ (x : Sought). x .found) (rw (c .before .before .before .before .before .before .before .row-at .ensures) at (c .before .before .before .before .before .before .find-entry .ensures))), c .before .before .before .before .enum-told2 .given .1), rw (← (ap (λ (x : Sought). x .found) (c .before .before .before .before .before .before .before .before .before .before .before .before .find-same .ensures)), c .before .before .before .before .before .before .before .before .before .before .place .given .1, ← (ap (λ (x : Sought). x .found) (rw (c .before .before .before .before .before .before .before .row-at .ensures) at (c .before .before .before .before .before .before .find-entry .ensures))), c .before .before .before .before .enum-told2 .given .1) (c .before .before .clear-at .ensures))
+returns-3 c =
+    let at-clear-at = c .before .before in
+    let enum-told2 = at-clear-at .before .before .enum-told2 in
+    let at-find-entry = at-clear-at .before .before .before .before in
+    let find-entry = at-find-entry .find-entry in
+    let row-at = at-find-entry .before .row-at in
+    let at-place = at-find-entry .before .before .before .before in
+    let place = at-place .place in
+    let find-same = at-place .before .before .find-same in (
+      rw (
+        ← (ap (λ (x : Sought). x .found) (find-same .ensures)),
+        place .given .1,
+        ← (ap (λ (x : Sought). x .found) (rw (row-at .ensures) at (find-entry .ensures))),
+        enum-told2 .given .1,
+      ),
+      rw (
+        ← (ap (λ (x : Sought). x .found) (find-same .ensures)),
+        place .given .1,
+        ← (ap (λ (x : Sought). x .found) (rw (row-at .ensures) at (find-entry .ensures))),
+        enum-told2 .given .1,
+      ) (at-clear-at .clear-at .ensures),
+    )
 
 pub delete-row-spec : {M : Type 1} → statement M
 delete-row-spec =

@@ -26,7 +26,11 @@ same-length c = search needs
 
 returns : tie.Need-returns
 unfolding rowStep findClash findVacant first
-returns c = (rw (← (ap (λ (x : Sought). x .found) (c .before .before .find-clash .ensures)), c .enum-told2 .given .1), rw (← (ap (λ (x : Sought). x .found) (c .before .before .find-clash .ensures)), c .enum-told2 .given .1))
+returns c =
+    let find-clash = c .before .before .find-clash in (
+      rw (← (ap (λ (x : Sought). x .found) (find-clash .ensures)), c .enum-told2 .given .1),
+      rw (← (ap (λ (x : Sought). x .found) (find-clash .ensures)), c .enum-told2 .given .1),
+    )
 
 find-vacant-requires : tie.Need-find-vacant-requires
 find-vacant-requires c κs = search needs
@@ -42,17 +46,63 @@ same-length-2 c = search needs
 
 returns-2 : tie.Need-returns-2
 unfolding rowStep findClash findVacant first
-returns-2 c = (rw (← (ap (λ (x : Sought). x .found) (c .before .before .before .before .before .before .find-clash .ensures)), c .before .before .before .before .enum-told .given .1, ← (ap (λ (x : Sought). x .found) (c .before .before .find-vacant .ensures)), c .enum-told3 .given .1), rw (← (ap (λ (x : Sought). x .found) (c .before .before .before .before .before .before .find-clash .ensures)), c .before .before .before .before .enum-told .given .1, ← (ap (λ (x : Sought). x .found) (c .before .before .find-vacant .ensures)), c .enum-told3 .given .1))
+returns-2 c =
+    let at-find-vacant = c .before .before in
+    let find-vacant = at-find-vacant .find-vacant in
+    let the-enum-told = at-find-vacant .before .before .enum-told in
+    let find-clash = at-find-vacant .before .before .before .before .find-clash in (
+      rw (
+        ← (ap (λ (x : Sought). x .found) (find-clash .ensures)),
+        the-enum-told .given .1,
+        ← (ap (λ (x : Sought). x .found) (find-vacant .ensures)),
+        c .enum-told3 .given .1,
+      ),
+      rw (
+        ← (ap (λ (x : Sought). x .found) (find-clash .ensures)),
+        the-enum-told .given .1,
+        ← (ap (λ (x : Sought). x .found) (find-vacant .ensures)),
+        c .enum-told3 .given .1,
+      ),
+    )
 
 write-at-requires : tie.Need-write-at-requires
-write-at-requires c κs = (let h = find-some (vacantAt (c .before .before .before .before .before .before .before .before .before .before .before .before .before .args .guide .now)) (length (c .before .before .before .before .before .before .before .before .before .before .before .before .before .args .guide .now) / 208) (c .before .before .free .given .0 .0) (sym (ap (λ (x : Sought). x .found) (c .before .before .before .before .find-vacant .ensures)) ∙ c .before .before .free .given .1) .0 in omega (arith, h), c .before .before .before .before .before .before .before .before .before .before .before .before .before .pre)
+write-at-requires c κs =
+    let at-free = c .before .before in
+    let free = at-free .free in
+    let find-vacant = at-free .before .before .find-vacant in
+    let at-start = at-free .before .before .before .before .before .before .before .before .before .before .before in
+    let guide = at-start .args .guide .now in (
+      let h = find-some (vacantAt guide) (length guide / 208) (free .given .0 .0)
+          (sym (ap (λ (x : Sought). x .found) (find-vacant .ensures)) ∙ free .given .1) .0 in omega (arith, h),
+      at-start .pre,
+    )
 
 same-length-3 : tie.Need-same-length-3
 same-length-3 c = search needs
 
 returns-3 : tie.Need-returns-3
 unfolding rowStep findClash findVacant first
-returns-3 c = (rw (← (ap (λ (x : Sought). x .found) (c .before .before .before .before .before .before .before .before .before .before .before .find-clash .ensures)), c .before .before .before .before .before .before .before .before .before .enum-told .given .1, ← (ap (λ (x : Sought). x .found) (c .before .before .before .before .before .before .before .find-vacant .ensures)), c .before .before .before .before .before .free .given .1), rw (← (ap (λ (x : Sought). x .found) (c .before .before .before .before .before .before .before .before .before .before .before .find-clash .ensures)), c .before .before .before .before .before .before .before .before .before .enum-told .given .1, ← (ap (λ (x : Sought). x .found) (c .before .before .before .before .before .before .before .find-vacant .ensures)), c .before .before .before .before .before .free .given .1) (c .before .before .write-at .ensures))
+returns-3 c =
+    let write-at = c .before .before .write-at in
+    let at-free = c .before .before .before .before .before in
+    let free = at-free .free in
+    let at-find-vacant = at-free .before .before in
+    let find-vacant = at-find-vacant .find-vacant in
+    let the-enum-told = at-find-vacant .before .before .enum-told in
+    let find-clash = at-find-vacant .before .before .before .before .find-clash in (
+      rw (
+        ← (ap (λ (x : Sought). x .found) (find-clash .ensures)),
+        the-enum-told .given .1,
+        ← (ap (λ (x : Sought). x .found) (find-vacant .ensures)),
+        free .given .1,
+      ),
+      rw (
+        ← (ap (λ (x : Sought). x .found) (find-clash .ensures)),
+        the-enum-told .given .1,
+        ← (ap (λ (x : Sought). x .found) (find-vacant .ensures)),
+        free .given .1,
+      ) (write-at .ensures),
+    )
 
 pub insert-row-spec : {M : Type 1} → statement M
 insert-row-spec =

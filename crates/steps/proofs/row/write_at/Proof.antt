@@ -29,11 +29,18 @@ same-length : tie.Need-same-length
 same-length c = search needs
 
 returns : tie.Need-returns
-returns c = place-back 208 (c .before .before .before .before .before .before .args .guide .now) (c .before .before .before .before .before .before .args .k) (c .before .before .write-row .last .0)
-    ∙ ap (withRowSlot (c .before .before .before .before .before .before .args .guide .now) (c .before .before .before .before .before .before .args .k))
-    (c .before .before .write-row .ensures
-    ∙ ap (rowWritten (c .before .before .before .before .before .before .args .row .now)) (place-part 208 (c .before .before .before .before .before .before .args .guide .now) (c .before .before .before .before .before .before .args .k))
-    ∙ row-written (c .before .before .before .before .before .before .args .row .now) (rowSlotAt (c .before .before .before .before .before .before .args .guide .now) (c .before .before .before .before .before .before .args .k)) (c .before .before .before .before .before .before .pre .1) (length-row-slot-at (c .before .before .before .before .before .before .args .guide .now) (c .before .before .before .before .before .before .args .k) (c .before .before .before .before .before .before .pre .0)))
+returns c =
+    let write-row = c .before .before .write-row in
+    let at-start = c .before .before .before .before .before .before in
+    let pre = at-start .pre in
+    let k = at-start .args .k in
+    let guide = at-start .args .guide .now in
+    let row = at-start .args .row .now in
+    place-back 208 guide k (write-row .last .0)
+    ∙ ap (withRowSlot guide k)
+    (write-row .ensures
+    ∙ ap (rowWritten row) (place-part 208 guide k)
+    ∙ row-written row (rowSlotAt guide k) (pre .1) (length-row-slot-at guide k (pre .0)))
 
 pub write-at-spec : {M : Type 1} → statement M
 write-at-spec =

@@ -13,51 +13,101 @@ use Rattle.taking.proofs.apply.apply_records.Tie as tie
 use Rattle.taking.proofs.apply.apply_records.Statement.{statement}
 
 abbrev Inv-loop : tie.InvT-loop
-Inv-loop register₀ guide lines answers₀ h n done₀ i₀ register answers done i = (Turned Data h lines (record { register = register₀; guide = guide }) answers₀ n (record { register = register; guide = guide }) answers done i) × (length register ≡ length register₀)
+Inv-loop register₀ guide file answers₀ h n done₀ i₀ register answers done i =
+    (Turned Data h file (record { register = register₀; guide = guide }) answers₀ n (record { register = register; guide = guide }) answers
+    done i) × (length register ≡ length register₀)
 
 abbrev μ-loop : tie.MeasureT-loop
-μ-loop register₀ guide lines answers₀ h n done₀ i₀ register answers done i = n - i
+μ-loop register₀ guide file answers₀ h n done₀ i₀ register answers done i = n - i
 
 loop-holds : tie.Need-loop-holds Inv-loop μ-loop
-loop-holds c = (turned-none Data (c .before .before .before .before .args .h) (c .before .before .before .before .args .lines .now) (record { register = c .before .before .before .before .args .register .now; guide = c .before .before .before .before .args .guide .now }) (c .before .before .before .before .args .answers .now) (c .before .before .before .before .args .n) (c .before .before .before .before .pre .1), refl)
+loop-holds c =
+    let at-start = c .before .before .before .before in (
+      turned-none Data (at-start .args .h) (at-start .args .file .now)
+          (record { register = at-start .args .register .now; guide = at-start .args .guide .now }) (at-start .args .answers .now)
+          (at-start .args .n) (at-start .pre .1),
+      refl,
+    )
 
 line-at-requires : tie.Need-line-at-requires Inv-loop μ-loop
-line-at-requires c κs = omega (arith, c .before .before .loop .inv .0 .within, c .before .before .before .before .before .before .before .pre .0)
+line-at-requires c κs =
+    let inv = c .before .before .loop .inv in
+    let pre = c .before .before .before .before .before .before .before .pre in
+    omega (arith, inv .0 .within, pre .0)
 
 apply-record-requires : tie.Need-apply-record-requires Inv-loop μ-loop
 apply-record-requires c κs = search needs
 
 slice-write-answers : tie.Need-slice-write-answers Inv-loop μ-loop
-slice-write-answers c = omega (arith, turned-length Data (c .before .before .before .before .before .before .before .before .before .before .before .args .h) (c .before .before .before .before .before .before .before .before .before .before .before .args .lines .now) (record { register = c .before .before .before .before .before .before .before .before .before .before .before .args .register .now; guide = c .before .before .before .before .before .before .before .before .before .before .before .args .guide .now }) (c .before .before .before .before .before .before .before .before .before .before .before .args .answers .now) (c .before .before .before .before .before .before .before .before .before .before .before .args .n) (record { register = c .before .before .before .before .before .before .loop .register; guide = c .before .before .before .before .before .before .before .before .before .before .before .args .guide .now }) (c .before .before .before .before .before .before .loop .answers) (c .before .before .before .before .before .before .loop .done) (c .before .before .before .before .before .before .loop .i) (c .before .before .before .before .before .before .loop .inv .0), c .before .before .before .before .before .before .loop .inv .0 .room)
+slice-write-answers c =
+    let at-loop = c .before .before .before .before .before .before in
+    let at-start = at-loop .before .before .before .before .before .args in
+    let guide = at-start .guide .now in
+    omega (
+      arith,
+      turned-length Data (at-start .h) (at-start .file .now) (record { register = at-start .register .now; guide = guide })
+          (at-start .answers .now) (at-start .n) (record { register = at-loop .loop .register; guide = guide }) (at-loop .loop .answers)
+          (at-loop .loop .done) (at-loop .loop .i) (at-loop .loop .inv .0),
+      at-loop .loop .inv .0 .room,
+    )
 
 add-done : tie.Need-add-done Inv-loop μ-loop
-add-done c = omega (arith, c .before .before .before .before .before .before .before .loop .inv .0 .few, c .before .before .before .before .before .before .before .loop .inv .0 .within, c .before .before .before .before .before .before .before .before .before .before .before .before .pre .0)
+add-done c =
+    let at-loop = c .before .before .before .before .before .before .before in
+    let pre = at-loop .before .before .before .before .before .pre in
+    omega (arith, at-loop .loop .inv .0 .few, at-loop .loop .inv .0 .within, pre .0)
 
 add-i : tie.Need-add-i Inv-loop μ-loop
-add-i c = omega (arith, c .before .before .before .before .before .before .before .loop .inv .0 .within, c .before .before .before .before .before .before .before .before .before .before .before .before .pre .0)
+add-i c =
+    let at-loop = c .before .before .before .before .before .before .before in
+    let pre = at-loop .before .before .before .before .before .pre in
+    omega (arith, at-loop .loop .inv .0 .within, pre .0)
 
 loop-less : tie.Need-loop-less Inv-loop μ-loop
 loop-less c = omega arith
 
 loop-again : tie.Need-loop-again Inv-loop μ-loop
 unfolding lineApplied
-loop-again c = (
-  turned-more Data (c .before .before .before .before .before .before .before .before .before .before .before .before .args .h) (c .before .before .before .before .before .before .before .before .before .before .before .before .args .lines .now) (record { register = c .before .before .before .before .before .before .before .before .before .before .before .before .args .register .now; guide = c .before .before .before .before .before .before .before .before .before .before .before .before .args .guide .now }) (c .before .before .before .before .before .before .before .before .before .before .before .before .args .answers .now) (c .before .before .before .before .before .before .before .before .before .before .before .before .args .n) (record { register = c .before .before .before .before .before .before .before .loop .register; guide = c .before .before .before .before .before .before .before .before .before .before .before .before .args .guide .now }) (c .before .before .before .before .before .before .before .loop .answers) (c .before .before .before .before .before .before .before .loop .done) (c .before .before .before .before .before .before .before .loop .i) (c .before .before .before .before .before .before .before .loop .inv .0) (c .before .before .before .apply-record .result) (c .if1 .done) (record { register = c .before .before .before .apply-record .last .0; guide = c .before .before .before .before .before .before .before .before .before .before .before .before .args .guide .now }) (c .before .before .before .before .before .before .loop-test .taken)
-      (rw (c .before .before .before .before .line-at .ensures) at (c .before .before .before .apply-record .ensures .0))
-      (ap (λ (x : List ℕ). record { register = x; guide = c .before .before .before .before .before .before .before .before .before .before .before .before .args .guide .now }) (rw (c .before .before .before .before .line-at .ensures) at (c .before .before .before .apply-record .ensures .1)))
-      (⊎-elim (λ w. count-zero _ _ _ (w .0 .taken) (w .1)) (λ w. count-other _ _ _ (w .0 .left) (w .1)) (c .if1 .came)),
-  c .before .before .before .apply-record .kept .0 ∙ c .before .before .before .before .before .before .before .loop .inv .1,
-)
+loop-again c =
+    let at-apply-record = c .before .before .before in
+    let apply-record = at-apply-record .apply-record in
+    let line-at = at-apply-record .before .line-at in
+    let loop-test = at-apply-record .before .before .before .loop-test in
+    let at-loop = at-apply-record .before .before .before .before in
+    let at-start = at-loop .before .before .before .before .before .args in
+    let guide = at-start .guide .now in (
+      turned-more Data (at-start .h) (at-start .file .now) (record { register = at-start .register .now; guide = guide })
+          (at-start .answers .now) (at-start .n) (record { register = at-loop .loop .register; guide = guide }) (at-loop .loop .answers)
+          (at-loop .loop .done) (at-loop .loop .i) (at-loop .loop .inv .0) (apply-record .result) (c .if1 .done)
+          (record { register = apply-record .last .0; guide = guide }) (loop-test .taken)
+          (rw (line-at .ensures) at (apply-record .ensures .0))
+          (ap (λ (x : List ℕ). record { register = x; guide = guide }) (rw (line-at .ensures) at (apply-record .ensures .1)))
+          (⊎-elim (λ w. count-zero _ _ _ (w .0 .taken) (w .1)) (λ w. count-other _ _ _ (w .0 .left) (w .1)) (c .if1 .came)),
+      apply-record .kept .0 ∙ at-loop .loop .inv .1,
+    )
 
 same-length : tie.Need-same-length Inv-loop μ-loop
 same-length c = c .before .loop .inv .1
 
 same-length-2 : tie.Need-same-length-2 Inv-loop μ-loop
-same-length-2 c = turned-length Data (c .before .before .before .before .before .before .args .h) (c .before .before .before .before .before .before .args .lines .now) (record { register = c .before .before .before .before .before .before .args .register .now; guide = c .before .before .before .before .before .before .args .guide .now }) (c .before .before .before .before .before .before .args .answers .now) (c .before .before .before .before .before .before .args .n) (record { register = c .before .loop .register; guide = c .before .before .before .before .before .before .args .guide .now }) (c .before .loop .answers) (c .before .loop .done) (c .before .loop .i) (c .before .loop .inv .0)
+same-length-2 c =
+    let at-loop = c .before in
+    let at-start = at-loop .before .before .before .before .before .args in
+    let guide = at-start .guide .now in
+    turned-length Data (at-start .h) (at-start .file .now) (record { register = at-start .register .now; guide = guide })
+    (at-start .answers .now) (at-start .n) (record { register = at-loop .loop .register; guide = guide }) (at-loop .loop .answers)
+    (at-loop .loop .done) (at-loop .loop .i) (at-loop .loop .inv .0)
 
 returns : tie.Need-returns Inv-loop μ-loop
-returns c = let a = turned-all Data (c .before .before .before .before .before .before .args .h) (c .before .before .before .before .before .before .args .lines .now) (record { register = c .before .before .before .before .before .before .args .register .now; guide = c .before .before .before .before .before .before .args .guide .now }) (c .before .before .before .before .before .before .args .answers .now) (c .before .before .before .before .before .before .args .n) (record { register = c .before .loop .register; guide = c .before .before .before .before .before .before .args .guide .now }) (c .before .loop .answers) (c .before .loop .done) (c .before .loop .i) (c .before .loop .inv .0) (c .loop-test .left) in
-    (omega (arith, c .before .loop .inv .0 .few, c .before .loop .inv .0 .within), (a .0, (ap (λ (x : Stores). x .register) (a .1 .0), a .1 .1)))
+returns c =
+    let at-loop = c .before in
+    let inv = at-loop .loop .inv in
+    let at-start = at-loop .before .before .before .before .before .args in
+    let guide = at-start .guide .now in
+    let a = turned-all Data (at-start .h) (at-start .file .now) (record { register = at-start .register .now; guide = guide })
+    (at-start .answers .now) (at-start .n) (record { register = at-loop .loop .register; guide = guide }) (at-loop .loop .answers)
+    (at-loop .loop .done) (at-loop .loop .i) (inv .0) (c .loop-test .left) in
+    (omega (arith, inv .0 .few, inv .0 .within), (a .0, (ap (λ (x : Stores). x .register) (a .1 .0), a .1 .1)))
 
 pub apply-records-spec : {M : Type 1} → statement M
 apply-records-spec =

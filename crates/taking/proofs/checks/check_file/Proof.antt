@@ -20,32 +20,87 @@ lines-in-requires : tie.Need-lines-in-requires
 lines-in-requires c κs = search needs
 
 check-frame-requires : tie.Need-check-frame-requires
-check-frame-requires c κs = good-lines (c .before .before .before .before .before .before .before .before .before .before .before .args .kind) (c .before .before .before .before .before .before .before .before .before .before .before .args .file .now) (sym (c .before .before .before .is-good-file .ensures) ∙ c .before .before .if3 .taken)
+check-frame-requires c κs =
+    let at-if3 = c .before .before in
+    let is-good-file = at-if3 .before .is-good-file in
+    let at-start = at-if3 .before .before .before .before .before .before .before .before .before .args in
+    good-lines (at-start .kind) (at-start .file .now) (sym (is-good-file .ensures) ∙ at-if3 .if3 .taken)
 
 returns : tie.Need-returns
 unfolding checked
-returns c = rw (← c .before .before .before .before .before .before .before .before .is-register-sound .ensures, c .before .before .before .before .before .before .before .if1 .taken, ← c .before .before .before .before .before .before .is-guide-sound .ensures, c .before .before .before .before .before .if2 .taken, ← c .before .before .before .before .is-good-file .ensures, c .before .before .before .if3 .taken, ← c .before .before .lines-in .ensures, le-leb _ _ (c .before .if4 .taken)) (c .check-frame .ensures)
+returns c =
+    let at-lines-in = c .before .before in
+    let if3 = at-lines-in .before .if3 in
+    let is-good-file = at-lines-in .before .before .is-good-file in
+    let at-if2 = at-lines-in .before .before .before in
+    let is-guide-sound = at-if2 .before .is-guide-sound in
+    let if1 = at-if2 .before .before .if1 in
+    let is-register-sound = at-if2 .before .before .before .is-register-sound in
+    rw (
+      ← is-register-sound .ensures,
+      if1 .taken,
+      ← is-guide-sound .ensures,
+      at-if2 .if2 .taken,
+      ← is-good-file .ensures,
+      if3 .taken,
+      ← at-lines-in .lines-in .ensures,
+      le-leb _ _ (c .before .if4 .taken),
+    ) (c .check-frame .ensures)
 
 refused-requires : tie.Need-refused-requires
 refused-requires c κs = search needs
 
 returns-2 : tie.Need-returns-2
 unfolding checked
-returns-2 c = rw (← c .before .before .before .before .before .before .before .before .is-register-sound .ensures, c .before .before .before .before .before .before .before .if1 .taken, ← c .before .before .before .before .before .before .is-guide-sound .ensures, c .before .before .before .before .before .if2 .taken, ← c .before .before .before .before .is-good-file .ensures, c .before .before .before .if3 .taken, ← c .before .before .lines-in .ensures, lt-leb _ _ (c .before .if4 .left)) (c .refused .ensures)
+returns-2 c =
+    let at-lines-in = c .before .before in
+    let if3 = at-lines-in .before .if3 in
+    let is-good-file = at-lines-in .before .before .is-good-file in
+    let at-if2 = at-lines-in .before .before .before in
+    let is-guide-sound = at-if2 .before .is-guide-sound in
+    let if1 = at-if2 .before .before .if1 in
+    let is-register-sound = at-if2 .before .before .before .is-register-sound in
+    rw (
+      ← is-register-sound .ensures,
+      if1 .taken,
+      ← is-guide-sound .ensures,
+      at-if2 .if2 .taken,
+      ← is-good-file .ensures,
+      if3 .taken,
+      ← at-lines-in .lines-in .ensures,
+      lt-leb _ _ (c .before .if4 .left),
+    ) (c .refused .ensures)
 
 refused-requires-2 : tie.Need-refused-requires-2
 refused-requires-2 c κs = search needs
 
 returns-3 : tie.Need-returns-3
 unfolding checked
-returns-3 c = rw (← c .before .before .before .before .before .before .is-register-sound .ensures, c .before .before .before .before .before .if1 .taken, ← c .before .before .before .before .is-guide-sound .ensures, c .before .before .before .if2 .taken, ← c .before .before .is-good-file .ensures, c .before .if3 .left) (c .refused2 .ensures)
+returns-3 c =
+    let is-good-file = c .before .before .is-good-file in
+    let at-if2 = c .before .before .before in
+    let is-guide-sound = at-if2 .before .is-guide-sound in
+    let if1 = at-if2 .before .before .if1 in
+    let is-register-sound = at-if2 .before .before .before .is-register-sound in
+    rw (
+      ← is-register-sound .ensures,
+      if1 .taken,
+      ← is-guide-sound .ensures,
+      at-if2 .if2 .taken,
+      ← is-good-file .ensures,
+      c .before .if3 .left,
+    ) (c .refused2 .ensures)
 
 refused-requires-3 : tie.Need-refused-requires-3
 refused-requires-3 c κs = search needs
 
 returns-4 : tie.Need-returns-4
 unfolding checked
-returns-4 c = rw (← c .before .before .before .before .is-register-sound .ensures, c .before .before .before .if1 .taken, ← c .before .before .is-guide-sound .ensures, c .before .if2 .left) (c .refused3 .ensures)
+returns-4 c =
+    let at-is-guide-sound = c .before .before in
+    let if1 = at-is-guide-sound .before .if1 in
+    let is-register-sound = at-is-guide-sound .before .before .is-register-sound in
+    rw (← is-register-sound .ensures, if1 .taken, ← at-is-guide-sound .is-guide-sound .ensures, c .before .if2 .left) (c .refused3 .ensures)
 
 refused-requires-4 : tie.Need-refused-requires-4
 refused-requires-4 c κs = search needs

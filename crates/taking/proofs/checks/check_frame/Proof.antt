@@ -23,24 +23,40 @@ refused-requires c κs = search needs
 
 returns : tie.Need-returns
 unfolding frameChecked
-returns c = rw (← c .before .before .before .before .header-line .ensures, ← c .before .before .before .header-in .ensures, c .before .enum-told .given .1) (c .refused .ensures)
+returns c =
+    let header-in = c .before .before .before .header-in in
+    let header-line = c .before .before .before .before .header-line in
+    rw (← header-line .ensures, ← header-in .ensures, c .before .enum-told .given .1) (c .refused .ensures)
 
 is-next-requires : tie.Need-is-next-requires
 is-next-requires c κs = search needs
 
 check-trailer-requires : tie.Need-check-trailer-requires
-check-trailer-requires c κs = c .before .before .before .before .before .before .before .before .before .before .pre
+check-trailer-requires c κs =
+    let pre = c .before .before .before .before .before .before .before .before .before .before .pre in
+    pre
 
 returns-2 : tie.Need-returns-2
 unfolding frameChecked
-returns-2 c = rw (← c .before .before .before .before .before .before .before .before .header-line .ensures, ← c .before .before .before .before .before .before .before .header-in .ensures, c .before .before .before .before .before .h .given .1, ← c .before .before .is-next .ensures, c .before .if1 .taken) (c .check-trailer .ensures)
+returns-2 c =
+    let is-next = c .before .before .is-next in
+    let at-h = c .before .before .before .before .before in
+    let header-in = at-h .before .before .header-in in
+    let header-line = at-h .before .before .before .header-line in
+    rw (← header-line .ensures, ← header-in .ensures, at-h .h .given .1, ← is-next .ensures, c .before .if1 .taken)
+    (c .check-trailer .ensures)
 
 refused-requires-2 : tie.Need-refused-requires-2
 refused-requires-2 c κs = search needs
 
 returns-3 : tie.Need-returns-3
 unfolding frameChecked
-returns-3 c = rw (← c .before .before .before .before .before .before .before .before .header-line .ensures, ← c .before .before .before .before .before .before .before .header-in .ensures, c .before .before .before .before .before .h .given .1, ← c .before .before .is-next .ensures, c .before .if1 .left) (c .refused2 .ensures)
+returns-3 c =
+    let is-next = c .before .before .is-next in
+    let at-h = c .before .before .before .before .before in
+    let header-in = at-h .before .before .header-in in
+    let header-line = at-h .before .before .before .header-line in
+    rw (← header-line .ensures, ← header-in .ensures, at-h .h .given .1, ← is-next .ensures, c .before .if1 .left) (c .refused2 .ensures)
 
 pub check-frame-spec : {M : Type 1} → statement M
 check-frame-spec =

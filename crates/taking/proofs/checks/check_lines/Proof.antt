@@ -33,7 +33,15 @@ cast-t11 : tie.Need-cast-t11 Inv-loop μ-loop
 cast-t11 c = search needs
 
 returns : tie.Need-returns Inv-loop μ-loop
-returns c = lines-bad (c .before .before .before .before .before .before .args .kind) (c .before .before .before .before .before .before .args .file .now) (c .before .before .before .before .before .before .args .n) (c .before .before .before .before .loop .i) (c .before .line-fault .result) (rw (c .before .before .line-at .ensures) at (c .before .line-fault .ensures .0)) (c .before .before .before .before .before .before .args .h) (c .before .before .before .before .before .before .pre .0) (c .before .before .before .before .loop .inv) (c .before .before .before .loop-test .taken) (c .if1 .taken)
+returns c =
+    let line-fault = c .before .line-fault in
+    let at-line-at = c .before .before in
+    let loop-test = at-line-at .before .loop-test in
+    let at-loop = at-line-at .before .before in
+    let at-start = at-loop .before .before in
+    lines-bad (at-start .args .kind) (at-start .args .file .now) (at-start .args .n) (at-loop .loop .i) (line-fault .result)
+    (rw (at-line-at .line-at .ensures) at (line-fault .ensures .0)) (at-start .args .h) (at-start .pre .0) (at-loop .loop .inv)
+    (loop-test .taken) (c .if1 .taken)
 
 add-i : tie.Need-add-i Inv-loop μ-loop
 add-i c = search needs
@@ -42,10 +50,25 @@ loop-less : tie.Need-loop-less Inv-loop μ-loop
 loop-less c = search needs
 
 loop-again : tie.Need-loop-again Inv-loop μ-loop
-loop-again c = passed-more (badLine (c .before .before .before .before .before .before .args .kind) (c .before .before .before .before .before .before .args .file .now)) (c .before .before .before .before .before .before .args .n) (c .before .before .before .before .loop .i) (c .before .before .before .before .loop .inv) (c .before .before .before .loop-test .taken) (bad-not (c .before .before .before .before .before .before .args .kind) (c .before .before .before .before .before .before .args .file .now) (c .before .before .before .before .before .before .args .n) (c .before .before .before .before .loop .i) (c .before .line-fault .result) (rw (c .before .before .line-at .ensures) at (c .before .line-fault .ensures .0)) (c .if1 .left))
+loop-again c =
+    let line-fault = c .before .line-fault in
+    let at-line-at = c .before .before in
+    let loop-test = at-line-at .before .loop-test in
+    let at-loop = at-line-at .before .before in
+    let at-start = at-loop .before .before .args in
+    let kind = at-start .kind in
+    let n = at-start .n in
+    let file = at-start .file .now in
+    passed-more (badLine kind file) n (at-loop .loop .i) (at-loop .loop .inv) (loop-test .taken)
+    (bad-not kind file n (at-loop .loop .i) (line-fault .result) (rw (at-line-at .line-at .ensures) at (line-fault .ensures .0))
+    (c .if1 .left))
 
 returns-2 : tie.Need-returns-2 Inv-loop μ-loop
-returns-2 c = lines-good (c .before .before .before .args .kind) (c .before .before .before .args .file .now) (c .before .before .before .args .n) (c .before .loop .i) (c .before .before .before .args .h) (c .before .before .before .pre .0) (c .before .loop .inv) (c .loop-test .left)
+returns-2 c =
+    let at-loop = c .before in
+    let at-start = at-loop .before .before in
+    lines-good (at-start .args .kind) (at-start .args .file .now) (at-start .args .n) (at-loop .loop .i) (at-start .args .h)
+    (at-start .pre .0) (at-loop .loop .inv) (c .loop-test .left)
 
 pub check-lines-spec : {M : Type 1} → statement M
 check-lines-spec =

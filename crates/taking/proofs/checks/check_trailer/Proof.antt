@@ -26,7 +26,12 @@ refused-requires c κs = search needs
 
 returns : tie.Need-returns
 unfolding trailerChecked
-returns c = rw (← c .before .before .before .before .before .header-line .ensures, ← c .before .before .before .before .trailer-line .ensures, ← c .before .before .before .trailer-in .ensures, c .before .enum-told .given .1) (c .refused .ensures)
+returns c =
+    let at-trailer-in = c .before .before .before in
+    let trailer-line = at-trailer-in .before .trailer-line in
+    let header-line = at-trailer-in .before .before .header-line in
+    rw (← header-line .ensures, ← trailer-line .ensures, ← at-trailer-in .trailer-in .ensures, c .before .enum-told .given .1)
+    (c .refused .ensures)
 
 lines-in-requires : tie.Need-lines-in-requires
 lines-in-requires c κs = search needs
@@ -35,18 +40,51 @@ is-requires : tie.Need-is-requires
 is-requires c κs = search needs
 
 check-lines-requires : tie.Need-check-lines-requires
-check-lines-requires c κs = (c .before .before .lines-in .ensures, rw (← c .before .before .lines-in .ensures) at (c .before .before .before .before .before .before .before .before .before .before .before .pre))
+check-lines-requires c κs =
+    let lines-in = c .before .before .lines-in in
+    let pre = c .before .before .before .before .before .before .before .before .before .before .before .pre in
+    (lines-in .ensures, rw (← lines-in .ensures) at pre)
 
 returns-2 : tie.Need-returns-2
 unfolding trailerChecked
-returns-2 c = rw (← c .before .before .before .before .before .before .before .before .before .header-line .ensures, ← c .before .before .before .before .before .before .before .before .trailer-line .ensures, ← c .before .before .before .before .before .before .before .trailer-in .ensures, c .before .before .before .before .before .count .given .1, ← c .before .before .before .lines-in .ensures, ← c .before .before .is .ensures, c .before .if1 .taken) (c .check-lines .ensures)
+returns-2 c =
+    let at-is = c .before .before in
+    let lines-in = at-is .before .lines-in in
+    let count = at-is .before .before .before .count in
+    let at-trailer-in = at-is .before .before .before .before .before in
+    let trailer-line = at-trailer-in .before .trailer-line in
+    let header-line = at-trailer-in .before .before .header-line in
+    rw (
+      ← header-line .ensures,
+      ← trailer-line .ensures,
+      ← at-trailer-in .trailer-in .ensures,
+      count .given .1,
+      ← lines-in .ensures,
+      ← at-is .is .ensures,
+      c .before .if1 .taken,
+    ) (c .check-lines .ensures)
 
 refused-requires-2 : tie.Need-refused-requires-2
 refused-requires-2 c κs = search needs
 
 returns-3 : tie.Need-returns-3
 unfolding trailerChecked
-returns-3 c = rw (← c .before .before .before .before .before .before .before .before .before .header-line .ensures, ← c .before .before .before .before .before .before .before .before .trailer-line .ensures, ← c .before .before .before .before .before .before .before .trailer-in .ensures, c .before .before .before .before .before .count .given .1, ← c .before .before .before .lines-in .ensures, ← c .before .before .is .ensures, c .before .if1 .left) (c .refused2 .ensures)
+returns-3 c =
+    let at-is = c .before .before in
+    let lines-in = at-is .before .lines-in in
+    let count = at-is .before .before .before .count in
+    let at-trailer-in = at-is .before .before .before .before .before in
+    let trailer-line = at-trailer-in .before .trailer-line in
+    let header-line = at-trailer-in .before .before .header-line in
+    rw (
+      ← header-line .ensures,
+      ← trailer-line .ensures,
+      ← at-trailer-in .trailer-in .ensures,
+      count .given .1,
+      ← lines-in .ensures,
+      ← at-is .is .ensures,
+      c .before .if1 .left,
+    ) (c .refused2 .ensures)
 
 pub check-trailer-spec : {M : Type 1} → statement M
 check-trailer-spec =

@@ -4,9 +4,6 @@ use Rattle.rules.specs.Takes.{goodFile}
 use Rattle.taking.proofs.checks.is_good_file.Tie as tie
 use Rattle.taking.proofs.checks.is_good_file.Statement.{statement}
 
-add-if1 : tie.Need-add-if1
-add-if1 c = search needs
-
 returns : tie.Need-returns
 unfolding goodFile
 returns c = rw (lt-leb _ _ (c .if1 .taken))
@@ -17,17 +14,11 @@ lines-in-requires c κs = search needs
 enum-told : tie.Need-enum-told
 enum-told c = search needs
 
-add-result : tie.Need-add-result
-add-result c = search needs
-
 sub-result : tie.Need-sub-result
 sub-result c = search needs
 
 enum-told-2 : tie.Need-enum-told-2
 enum-told-2 c = search needs
-
-add-result-2 : tie.Need-add-result-2
-add-result-2 c = search needs
 
 sub-result-2 : tie.Need-sub-result-2
 sub-result-2 c = search needs
@@ -44,14 +35,11 @@ pub is-good-file-spec : {M : Type 1} → statement M
 is-good-file-spec =
     tie.close
     (tie.spec
-    add-if1
     returns
     lines-in-requires
     enum-told
-    add-result
     sub-result
     enum-told-2
-    add-result-2
     sub-result-2
     returns-2
     returns-3)

@@ -9,9 +9,6 @@ use Rattle.rules.specs.Takes.{lineSize, linesIn}
 use Rattle.taking.proofs.checks.lines_in.Tie as tie
 use Rattle.taking.proofs.checks.lines_in.Statement.{statement}
 
-add-if1 : tie.Need-add-if1
-add-if1 c = search needs
-
 returns : tie.Need-returns
 unfolding linesIn
 returns c = let z : length (c .before .args .file .now) - 400 ≡ 0 = omega arith in
@@ -20,17 +17,11 @@ returns c = let z : length (c .before .args .file .now) - 400 ≡ 0 = omega arit
 enum-told : tie.Need-enum-told
 enum-told c = search needs
 
-add-result : tie.Need-add-result
-add-result c = search needs
-
 sub-result : tie.Need-sub-result
 sub-result c = search needs
 
 enum-told-2 : tie.Need-enum-told-2
 enum-told-2 c = search needs
-
-add-result-2 : tie.Need-add-result-2
-add-result-2 c = search needs
 
 sub-result-2 : tie.Need-sub-result-2
 sub-result-2 c = search needs
@@ -47,13 +38,10 @@ pub lines-in-spec : {M : Type 1} → statement M
 lines-in-spec =
     tie.close
     (tie.spec
-    add-if1
     returns
     enum-told
-    add-result
     sub-result
     enum-told-2
-    add-result-2
     sub-result-2
     returns-2
     returns-3)

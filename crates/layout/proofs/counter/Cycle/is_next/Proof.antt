@@ -15,7 +15,10 @@ returns : tie.Need-returns
 returns c = rw (← c .before .before .next .ensures, c .enum-told .given .1)
 
 returns-2 : tie.Need-returns-2
-returns-2 c = rw (← c .before .before .before .before .before .next .ensures, c .before .before .before .next2 .given .1)
+returns-2 c =
+    let next2 = c .before .before .before .next2 in
+    let next = c .before .before .before .before .before .next in
+    rw (← next .ensures, next2 .given .1)
 
 pub is-next-spec : {M : Type 1} → statement M
 is-next-spec = tie.close (tie.spec next-requires enum-known-next enum-told returns returns-2)

@@ -1,0 +1,14 @@
+use borrow.Author.Needs.{needs}
+use Rattle.rules.specs.Slots.{recordOf}
+use Rattle.register.proofs.rec.Tie as tie
+use Rattle.register.proofs.rec.Statement.{statement}
+
+part-of-requires : tie.Need-part-of-requires
+part-of-requires c κs = search needs
+
+returns : tie.Need-returns
+unfolding recordOf
+returns c = c .part-of .ensures
+
+pub rec-spec : {M : Type 1} → statement M
+rec-spec = tie.close (tie.spec part-of-requires returns)

@@ -1,0 +1,38 @@
+// The numbers of the refusals, each with what it is refused for. `specs/` says when each one stands.
+pub const NONE: u32 = 0;
+
+// "register length or a slot unsound"
+pub const REGISTER: u32 = 1;
+
+// "guide length or a slot unsound"
+pub const GUIDE: u32 = 2;
+
+// "file length isn't 400 + 512n (guide: 400 + 200n), n at most 9999"
+pub const FILE_LENGTH: u32 = 3;
+
+// "answers buffer shorter than n"
+pub const ANSWERS_SHORT: u32 = 4;
+
+// "header wrong"
+pub const HEADER: u32 = 5;
+
+// "cycle isn't the next"
+pub const CYCLE: u32 = 6;
+
+// "trailer wrong, or its date or name differs from the header's"
+pub const TRAILER: u32 = 7;
+
+// "trailer count isn't n"
+pub const COUNT: u32 = 8;
+
+// "a record breaks a field rule"
+pub const FIELD_RULE: u32 = 9;
+
+// "that ten digits are given"
+pub const NO_NUMBER: u32 = 10;
+
+// "the output is too short"
+pub const OUTPUT_SHORT: u32 = 25;
+
+// "date, name or cycle breaks the header's rules .. or the date is before an entry's day"
+pub const LOAD_HEADER: u32 = 26;

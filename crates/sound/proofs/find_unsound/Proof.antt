@@ -1,0 +1,89 @@
+use Prim.Native.Nat.{_-_, _/_}
+use lib.ListN.{length}
+use denote.Ref.{now}
+use borrow.Author.Needs.{needs}
+use Rattle.rules.specs.Slots.{unsoundSlot, isUnsound}
+use Rattle.rules.proofs.WalkLaws.{Passed, passed-none, passed-more, passed-hit, passed-all}
+use Rattle.rules.proofs.PlaceLaws.{place-test}
+use Rattle.sound.proofs.find_unsound.Tie as tie
+use Rattle.sound.proofs.find_unsound.Statement.{statement}
+
+abbrev Inv-loop : tie.InvT-loop
+Inv-loop register n i₀ i = Passed (unsoundSlot register) n i
+
+abbrev μ-loop : tie.MeasureT-loop
+μ-loop register n i₀ i = n - i
+
+loop-holds : tie.Need-loop-holds Inv-loop μ-loop
+loop-holds c = passed-none _ _
+
+mul-a : tie.Need-mul-a Inv-loop μ-loop
+mul-a c = search needs
+
+add-e : tie.Need-add-e Inv-loop μ-loop
+add-e c = search needs
+
+sub-is-unsound : tie.Need-sub-is-unsound Inv-loop μ-loop
+sub-is-unsound c = search needs
+
+part-is-unsound-start : tie.Need-part-is-unsound-start Inv-loop μ-loop
+part-is-unsound-start c = search needs
+
+part-is-unsound-end : tie.Need-part-is-unsound-end Inv-loop μ-loop
+part-is-unsound-end c = search needs
+
+is-unsound-requires : tie.Need-is-unsound-requires Inv-loop μ-loop
+is-unsound-requires c κs = search needs
+
+add-t14 : tie.Need-add-t14 Inv-loop μ-loop
+add-t14 c = search needs
+
+returns : tie.Need-returns Inv-loop μ-loop
+unfolding unsoundSlot
+returns c =
+    let loop-test = c .before .before .before .loop-test in
+    let at-loop = c .before .before .before .before in
+    let register = at-loop .before .before .args .register .now in
+    passed-hit (unsoundSlot register) (length register / 520) (at-loop .loop .i) (at-loop .loop .inv) (loop-test .taken)
+    (place-test 520 isUnsound register (at-loop .loop .i) (c .before .is-unsound .ensures) (c .if1 .taken))
+
+add-i : tie.Need-add-i Inv-loop μ-loop
+add-i c = search needs
+
+loop-less : tie.Need-loop-less Inv-loop μ-loop
+loop-less c = search needs
+
+loop-again : tie.Need-loop-again Inv-loop μ-loop
+unfolding unsoundSlot
+loop-again c =
+    let loop-test = c .before .before .before .loop-test in
+    let at-loop = c .before .before .before .before in
+    let register = at-loop .before .before .args .register .now in
+    passed-more (unsoundSlot register) (length register / 520) (at-loop .loop .i) (at-loop .loop .inv) (loop-test .taken)
+    (place-test 520 isUnsound register (at-loop .loop .i) (c .before .is-unsound .ensures) (c .if1 .left))
+
+returns-2 : tie.Need-returns-2 Inv-loop μ-loop
+returns-2 c =
+    let at-loop = c .before in
+    let register = at-loop .before .before .args .register .now in
+    passed-all (unsoundSlot register) (length register / 520) (at-loop .loop .i) (at-loop .loop .inv) (c .loop-test .left)
+
+pub find-unsound-spec : {M : Type 1} → statement M
+find-unsound-spec =
+    tie.close
+    (tie.spec
+    Inv-loop
+    μ-loop
+    loop-holds
+    mul-a
+    add-e
+    sub-is-unsound
+    part-is-unsound-start
+    part-is-unsound-end
+    is-unsound-requires
+    add-t14
+    returns
+    add-i
+    loop-less
+    loop-again
+    returns-2)

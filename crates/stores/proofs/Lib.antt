@@ -1,2 +1,0 @@
-pub mod StreetLaws
-pub mod RangeLaws

@@ -1,9 +1,0 @@
-use mathlib.Core.Path.{refl}
-use Rattle.stores.proofs.register.is_live.Statement.{statement}
-use Rattle.stores.proofs.register.is_live.Tie as tie
-
-returns : tie.Need-returns
-returns c = refl
-
-pub is-live-spec : {M : Type 1} → statement M
-is-live-spec = tie.close (tie.spec returns)
