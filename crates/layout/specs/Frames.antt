@@ -2,7 +2,8 @@
 -- Assumes nothing.
 use Prim.Native.Nat.{ℕ}
 use mathlib.Core.List.{List, [], _∷_}
-use mathlib.Core.Bool.{Bool, false, _&&_, cond}
+use mathlib.Core.Path.{_≡_, refl}
+use mathlib.Core.Bool.{Bool, true, false, _&&_, cond}
 use lib.Dec.{eqb}
 use Rattle.text.specs.Text.{sameBytes, putAt, spaces, leftDigits, rightDigits}
 use Rattle.calendar.specs.Calendar.{dayOf, onDay}
@@ -16,7 +17,20 @@ use Rattle.layout.specs.declared.frame.Opened.the-variants.{Header as aH
 use Rattle.layout.specs.declared.frame.Closed.{Closed}
 use Rattle.layout.specs.declared.frame.Closed.the-variants.{Trailer as aTrailer, Wrong as noTrailer}
 
--- date and company name stand at the same places in both
+-- where a frame's letters, date, company name, counter and `*` start, and how many bytes the first three have
+abbrev pub commonPlaces : List ℕ → ℕ → List ℕ
+commonPlaces t counter =
+    startOf t opener ∷ sizeOf t opener
+    ∷ startOf t frameDate ∷ sizeOf t frameDate
+    ∷ startOf t name ∷ sizeOf t name
+    ∷ startOf t counter
+    ∷ startOf t frameStar ∷ sizeOf t frameStar
+    ∷ []
+
+-- letters, date, company name, the counter's start and `*` stand at the same places in both tables
+pub same-frame : sameBytes (commonPlaces header cycle) (commonPlaces trailer count) ≡ true
+same-frame = refl
+
 unfoldable pub dateOf : List ℕ → List ℕ
 dateOf s = field header frameDate s
 

@@ -18,7 +18,7 @@ free = 1
 abbrev pub leftText : ℕ
 leftText = 2
 
--- the same, and blank only in D and U
+-- the same, and not blank; in D and U of a data record it may be
 abbrev pub named : ℕ
 named = 3
 
@@ -38,15 +38,15 @@ house = 6
 abbrev pub direction : ℕ
 direction = 7
 
--- a digit; blank only in D and U
+-- a digit; in D and U of a data record it may be blank
 abbrev pub oneDigit : ℕ
 oneDigit = 8
 
--- 0 to 5; blank only in D and U
+-- 0 to 5; in D and U of a data record it may be blank
 abbrev pub zeroToFive : ℕ
 zeroToFive = 9
 
--- capitals; blank only in D and U
+-- capitals; in D and U of a data record they may be blank
 abbrev pub capitals : ℕ
 capitals = 10
 

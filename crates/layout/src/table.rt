@@ -9,7 +9,7 @@ pub const FREE: usize = 1;
 // Left-justified: blank, or the first byte is no space.
 pub const TEXT: usize = 2;
 
-// The same, and blank only in D and U.
+// The same, and not blank; in D and U of a data record it may be.
 pub const NAMED: usize = 3;
 
 // C, D, I, U or M.
@@ -24,13 +24,13 @@ pub const HOUSE: usize = 6;
 // Blank or N S E W NE NW SE SW.
 pub const DIRECTION: usize = 7;
 
-// A digit; blank only in D and U.
+// A digit; in D and U of a data record it may be blank.
 pub const ONE_DIGIT: usize = 8;
 
-// 0 to 5; blank only in D and U.
+// 0 to 5; in D and U of a data record it may be blank.
 pub const ZERO_TO_FIVE: usize = 9;
 
-// Capitals; blank only in D and U.
+// Capitals; in D and U of a data record they may be blank.
 pub const CAPITALS: usize = 10;
 
 // A space or `C`.

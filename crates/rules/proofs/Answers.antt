@@ -2,21 +2,25 @@
 -- Assumes nothing.
 use mathlib.Core.Path.{_≡_, refl, sym, ap, _∙_}
 use mathlib.Core.Logic.{_≢_}
-use mathlib.Core.Bool.{Bool, true, false, cond}
-use mathlib.Core.List.{List}
-use Prim.Native.Nat.{ℕ, _+_, _*_}
+use mathlib.Core.Bool.{Bool, true, false, _&&_, _||_, cond}
+use mathlib.Core.List.{List, _++_}
+use Prim.Native.Nat.{ℕ, _+_, _*_, _<_}
 use native.Mathlib.Omega.{arith}
 use lib.Dec.{leb, eqb}
-use lib.ListN.{length, drop, List·getD-append}
+use lib.ListN.{length, drop, getD, List·getD-append}
 use lib.Seq.{drop-at}
 use borrow.Author.Tests.{eqb-false}
 use Rattle.text.specs.Text.{memberOf}
+use Rattle.text.proofs.Laws.{and-left, and-right}
+use Rattle.calendar.specs.declared.Day.{Day}
 use Rattle.layout.specs.declared.frame.Header.{Header}
 use Rattle.layout.specs.declared.frame.Opened.{Opened}
 use Rattle.layout.specs.declared.frame.Opened.the-variants.{Header as aHeader, Wrong as noHeader}
 use Rattle.layout.specs.Fields.{numberOf}
 use Rattle.layout.specs.Frames.{onHeader}
 use Rattle.layout.specs.Counters.{givenCycle}
+use Rattle.rules.specs.declared.Code.{Code}
+use Rattle.rules.specs.declared.Code.the-variants.{Insert, Change, Delete, Unlock, Migrate}
 use Rattle.rules.specs.declared.Kind.{Kind}
 use Rattle.rules.specs.declared.Kind.the-variants.{Data, Guide}
 use Rattle.rules.specs.declared.Filed.{Filed}
@@ -25,21 +29,23 @@ use Rattle.rules.specs.declared.RowCode.{RowCode}
 use Rattle.rules.specs.declared.RowCode.the-variants.{Insert as InsertRow, Delete as DeleteRow, NoCode}
 use Rattle.rules.specs.declared.Seen.{Seen}
 use Rattle.rules.specs.declared.Checked.{Checked}
+use Rattle.rules.specs.declared.Checked.the-variants.{Good, Refused}
+use Rattle.rules.specs.declared.Refusal.{Refusal}
 use Rattle.rules.specs.declared.Taken.{Taken}
 use Rattle.rules.specs.declared.Found.{Found}
 use Rattle.rules.specs.declared.Found.the-variants.{At, Nothing}
-use Rattle.rules.specs.Walks.{find, onFound}
+use Rattle.rules.specs.Walks.{find, orElse, isNothing, onFound}
 use Rattle.rules.specs.Slots.{slots, goodLength, registerSound}
-use Rattle.rules.specs.Records.{filedOf, findNumber, findRow, findSpare, table, answerOf, Step, step, applied}
+use Rattle.rules.specs.Records.{filedOf, isInsert, findNumber, findRow, freeAt, reusableAt, findFree, findReusable, findSpare, table, answerOf, Step, step, applied}
 use Rattle.rules.specs.Rows.{rowCodeOf, findClash, findVacant, findSame, insertTable, deleteTable, rowAnswerOf, RowStep, rowApplied}
-use Rattle.rules.specs.Takes.{Stores, lineFault, lineAt, linesIn, lineApplied, answerAt, answersTo, after, refusedFile, appliedFile, onChecked, taken}
+use Rattle.rules.specs.Takes.{Stores, lineFault, lineAt, linesIn, refuse, checked, lineApplied, answerAt, answersTo, after, refusedFile, appliedFile, onChecked, taken}
 use Rattle.rules.specs.Lookups.{isNumber, seenIn, unseen, seen, packed}
 use Rattle.rules.specs.Loads.{loadSize, loadHeader, laterAt, headerRefusal, loadRefusal, refusedLoad, writtenLoad, loaded}
-use Rattle.rules.specs.Answered.{takeNumbers, answerNumbers, loadNumbers, lookupNumbers, TakeRefused, TakeDone, TakeAnswered, TakesAnswer, LinesAnswer, LoadAnswered, LoadsAnswer, LookupsAnswer, OneData, OneGuide, OneLoad, OneLookup}
-use Rattle.rules.proofs.WalkLaws.{numbersIn, first-in}
+use Rattle.rules.specs.Answered.{takeNumbers, answerNumbers, loadNumbers, lookupNumbers, TakeRefused, NoneHits, TakeDone, TakeAnswered, TakesAnswer, LinesAnswer, Full, FullsAnswer, LoadAnswered, LoadsAnswer, LookupsAnswer, OneData, OneGuide, OneLoad, OneLookup}
+use Rattle.rules.proofs.WalkLaws.{clash-bool, find-none, find-nowhere, is-nothing, numbersIn, first-in, hitBy, first-hit, first-some}
 use Rattle.rules.proofs.TakeLaws.{line-not, answers-length, answer-is, done-undone}
 use Rattle.rules.proofs.FaultLaws.{line-fault-starts}
-use Rattle.rules.proofs.GoodLaws.{BadLine, checked-by}
+use Rattle.rules.proofs.GoodLaws.{BadLine, checked-by, passed-good}
 use Rattle.rules.proofs.LookupLaws.{seen-bounded}
 use Rattle.rules.proofs.LoadLength.{load-rest}
 
@@ -86,14 +92,82 @@ pub line-answered : LinesAnswer
 unfolding LinesAnswer
 line-answered k h r s = record { number = line-number k h r s; refused = line-not k h r s }
 
+-- ---- 20
+
+-- only I inserts
+insert-is : (c : Code) → isInsert c ≡ true → c ≡ Insert
+insert-is Insert e = refl
+insert-is Change e = clash-bool e refl
+insert-is Delete e = clash-bool e refl
+insert-is Unlock e = clash-bool e refl
+insert-is Migrate e = clash-bool e refl
+
+-- of two searches, the second only where the first found nothing, neither found anything
+both-nothing : (a b : Found) → isNothing (orElse a b) ≡ true → (a ≡ Nothing) × (b ≡ Nothing)
+both-nothing (At i) b e = clash-bool e refl
+both-nothing Nothing b e = (refl, is-nothing b e)
+
+module _ (R G : List ℕ) (h : Header) (r : List ℕ) (c : Code) (d : Day) where
+  -- the last test of the table
+  abbrev isFull : Bool
+  isFull = isInsert c && (isNothing (findNumber (numberOf r) R) && isNothing (findSpare (h .day) R))
+
+  -- says that it is I, and that the number, a free slot and a reusable one were each sought in vain
+  full-of : isFull ≡ true → Full R h r c
+  unfolding findSpare findFree findReusable freeAt reusableAt
+  full-of e =
+      let n = isNothing (findNumber (numberOf r) R) in
+      let p = isNothing (findSpare (h .day) R) in
+      let v = and-right (isInsert c) (n && p) e in
+      let b = both-nothing (findFree R) (findReusable (h .day) R) (and-right n p v) in
+      record {
+        insert = insert-is c (and-left (isInsert c) (n && p) e);
+        absent = is-nothing (findNumber (numberOf r) R) (and-left n p v);
+        free = find-none (freeAt R) (slots R) (b .0);
+        reusable = find-none (reusableAt (h .day) R) (slots R) (b .1);
+      }
+
+  of-full : Full R h r c → isFull ≡ true
+  unfolding findSpare findFree findReusable freeAt reusableAt
+  of-full f =
+      rw (
+        f .insert,
+        f .absent,
+        find-nowhere (freeAt R) (slots R) (f .free),
+        find-nowhere (reusableAt (h .day) R) (slots R) (f .reusable),
+      ) refl
+
+-- an answer of 20 is that of the last row, whose test is just this
+pub full-answered : FullsAnswer
+unfolding FullsAnswer answerOf hitBy numbersIn
+full-answered R G h r c d =
+    let t = table R G h r c d (findNumber (numberOf r) R) (findRow r G) (findSpare (h .day) R) in
+    record {
+      means = λ e. full-of R G h r c d (or-none (isFull R G h r c d) (first-hit 20 t (omega arith) e));
+      then = λ f. first-some 20 (drop 1 (answerNumbers Data)) t (rw (of-full R G h r c d f) refl) refl;
+    }
+  where
+    or-none : (b : Bool) → b || false ≡ true → b ≡ true
+    or-none true e = refl
+    or-none false e = clash-bool e refl
+
 -- ---- a take
 
 module _ (k : Kind) (s : Stores) (f answers : List ℕ) (last : ℕ) where
-  -- what a take makes of what the checks say
+  -- what a take makes of what the checks say, where they say it
   abbrev outcome : Checked → Type 0
   outcome c =
-      TakeAnswered k s f answers last
+      checked k s f (length answers) (givenCycle last) ≡ c
+      → TakeAnswered k s f answers last
       (onChecked c (λ h. appliedFile k h s f answers) (λ r. refusedFile r s answers last))
+
+  -- where none of the nine tests hits, nothing is refused
+  not-refused : {A : Type 0} (r : Refusal) → checked k s f (length answers) (givenCycle last) ≡ Refused r
+      → (h : Header) → NoneHits k s f (length answers) (givenCycle last) h → A
+  not-refused r q h p =
+      let e : Refused r ≡ Good h = sym q ∙ passed-good k s f (length answers) (givenCycle last) h p in
+      let z : _≡_ {A = ℕ} 0 1 = cc in
+      absurd (omega arith)
 
   -- a refusal returns counts of 0 and the cycle as given, and changes nothing lent
   refused-file : (n place position : ℕ)
@@ -103,28 +177,28 @@ module _ (k : Kind) (s : Stores) (f answers : List ℕ) (last : ℕ) where
       record { stores = refl; answers = refl; records = refl; done = refl; undone = refl; last = refl }
 
   -- by a number that is neither 0 nor 9
-  refused-plain : (n : ℕ) → memberOf n takeNumbers ≡ true → n ≢ 0 → n ≢ 9
-      → TakeAnswered k s f answers last (refusedFile (record { number = n; place = 0; position = 0 }) s answers last)
+  refused-plain : (n : ℕ) → memberOf n takeNumbers ≡ true → n ≢ 0 → n ≢ 9 → outcome (refuse n)
   unfolding refusedFile
-  refused-plain n m z e =
+  refused-plain n m z e q =
       record {
         number = m;
         refused = λ x. refused-file n 0 0;
         done = λ x. absurd (z x);
+        taken = not-refused (record { number = n; place = 0; position = 0 }) q;
         placed = λ x. absurd (e x);
         unplaced = λ x. (refl, refl);
       }
 
   -- by 9: the place is that of a line, and the position that of a field
   refused-line : (i : ℕ) → BadLine k f i
-      → TakeAnswered k s f answers last
-      (refusedFile (record { number = 9; place = i + 1; position = lineFault k (lineAt k f i) }) s answers last)
+      → outcome (Refused (record { number = 9; place = i + 1; position = lineFault k (lineAt k f i) }))
   unfolding refusedFile
-  refused-line i b =
+  refused-line i b q =
       record {
         number = refl;
         refused = λ x. refused-file 9 (i + 1) (lineFault k (lineAt k f i));
         done = λ x. absurd (omega arith);
+        taken = not-refused (record { number = 9; place = i + 1; position = lineFault k (lineAt k f i) }) q;
         placed = λ x. record {
           from = omega arith;
           to = omega (arith, b .within);
@@ -133,35 +207,40 @@ module _ (k : Kind) (s : Stores) (f answers : List ℕ) (last : ℕ) where
         unplaced = λ x. absurd (x refl);
       }
 
-  -- a file that is taken: an answer for each line, and the bytes behind them stay
-  done-file : (h : Header) → TakeDone k f answers (appliedFile k h s f answers)
+  -- a file that is taken: byte i is the answer to line i, and the bytes behind them stay
+  done-file : (h : Header) → NoneHits k s f (length answers) (givenCycle last) h
+      → TakeDone k s f answers last (appliedFile k h s f answers) h
   unfolding appliedFile answerAt
-  done-file h =
+  done-file h g =
       let n = linesIn k f in
       let a = answersTo k h f s n in
       let l = answers-length k h f s n in
+      let e : (i : ℕ) → i < n → getD (a ++ drop n answers) i 0 ≡ answerAt k h f s i
+      = λ i m. List·getD-append a _ 0 i (rw l m) ∙ answer-is k h f s n i m in
       record {
+        passed = g;
         records = refl;
         counts = done-undone k h f s n;
-        each = λ i m.
-            ap (λ x. memberOf x (answerNumbers k)) (List·getD-append a _ 0 i (rw l m) ∙ answer-is k h f s n i m)
-            ∙ line-number k h (lineAt k f i) (after k h f s i);
+        last = refl;
+        each = e;
+        number = λ i m. ap (λ x. memberOf x (answerNumbers k)) (e i m) ∙ line-number k h (lineAt k f i) (after k h f s i);
         rest = drop-at a (drop n answers) n l;
       }
 
   -- by 0, with place and position 0
-  taken-file : (h : Header) → TakeAnswered k s f answers last (appliedFile k h s f answers)
+  taken-file : (h : Header) → NoneHits k s f (length answers) (givenCycle last) h → outcome (Good h)
   unfolding appliedFile
-  taken-file h =
+  taken-file h g q =
       record {
         number = refl;
         refused = λ x. absurd (x refl);
-        done = λ x. done-file h;
+        done = λ x. (h, done-file h g);
+        taken = λ x p. refl;
         placed = λ x. absurd (omega arith);
         unplaced = λ x. (refl, refl);
       }
 
--- DEMAND 1, of a file: whatever is handed over is answered, and a refusal leaves all that is lent
+-- DEMAND 1, of a file: whatever is handed over is answered, a refusal leaves all that is lent, and nothing is refused but by the nine
 pub take-answered : TakesAnswer
 unfolding TakesAnswer taken
 take-answered k s f answers last =
@@ -176,7 +255,8 @@ take-answered k s f answers last =
     (plain 7 refl (omega arith) (omega arith))
     (plain 8 refl (omega arith) (omega arith))
     (refused-line k s f answers last)
-    (λ h g. taken-file k s f answers last h)
+    (taken-file k s f answers last)
+    refl
 
 -- ---- the load file
 

@@ -1,20 +1,20 @@
--- Two rows clash exactly if some house number of one street in one place is covered by both.
+-- Two rows clash exactly if some house number of one street in one place is covered by both; the same row has the same numbers.
 -- Assumes nothing.
-use mathlib.Core.Path.{_≡_, refl, sym, _∙_}
+use mathlib.Core.Path.{_≡_, refl, sym, ap, _∙_}
 use mathlib.Core.Logic.{_⊎_, inl, inr}
 use mathlib.Core.Bool.{Bool, true, false, _&&_, _||_}
 use mathlib.Core.List.{List}
 use Prim.Native.Nat.{ℕ, _+_, _%_, _≤_, min, max}
 use native.Mathlib.Decide.{ℕ-discrete}
 use native.Mathlib.Omega.{arith}
-use lib.Dec.{leb}
-use borrow.Author.Tests.{leb-true, le-leb}
+use lib.Dec.{leb, eqb}
+use borrow.Author.Tests.{leb-true, le-leb, eqb-true}
 use Rattle.text.specs.declared.Spelled.{Spelled}
 use Rattle.text.specs.declared.Spelled.the-variants.{Number, NoNumber}
 use Rattle.text.specs.Text.{sameBytes, onNumber}
 use Rattle.text.proofs.Laws.{and-left, and-right, or-left, or-right, same-true, same-refl}
-use Rattle.layout.specs.Fields.{houseOf, streetOf, placeOf, rowStreetOf, rowPlaceOf, lowOf, highOf, parityOf, allows}
-use Rattle.rules.specs.Covers.{hits, over, covers, sameStreet, bothAllow, meetFrom, meets, clash}
+use Rattle.layout.specs.Fields.{houseOf, streetOf, placeOf, rowStreetOf, rowPlaceOf, lowOf, highOf, parityOf, allows, rowEsnOf, sameEsn}
+use Rattle.rules.specs.Covers.{hits, over, covers, sameStreet, bothAllow, meetFrom, meets, clash, Shared, ClashExactly, equalNumbers, sameRow, SameAlike}
 use Rattle.rules.proofs.WalkLaws.{decided, clash-bool}
 
 -- ---- numbers in two ranges
@@ -221,17 +221,29 @@ clash-covers g h c r u v = go (houseOf r) (sym (covers-over g r) ∙ u) (sym (co
     go (Number n) u v = clash-no g h c (streetOf r) (placeOf r) n u v
     go NoNumber u v = clash-bool u refl
 
+-- two rows clash exactly if a house number is over both: the one that clash-yes finds, and any by clash-no
+pub clash-exactly : ClashExactly
+unfolding ClashExactly
+clash-exactly g h = (
+  λ e.
+      let m = clash-yes g h e in
+      record { street = rowStreetOf g; town = rowPlaceOf g; number = m .0; first = m .1; second = m .2 },
+  λ s. go s (decided (clash g h)),
+)
+  where
+    go : Shared g h → (clash g h ≡ true) ⊎ (clash g h ≡ false) → clash g h ≡ true
+    go s (inl e) = e
+    go s (inr e) = absurd (clash-no g h e (s .street) (s .town) (s .number) (s .first) (s .second))
+
 -- ---- the order of two rows, and a row with itself
 
 -- rows that clash do so in the other order
 clash-turned : (g h : List ℕ) → clash g h ≡ true → clash h g ≡ true
-clash-turned g h e = go (decided (clash h g))
-  where
-    go : (clash h g ≡ true) ⊎ (clash h g ≡ false) → clash h g ≡ true
-    go (inl f) = f
-    go (inr f) =
-        let m = clash-yes g h e in
-        absurd (clash-no h g f (rowStreetOf g) (rowPlaceOf g) (m .0) (m .2) (m .1))
+unfolding ClashExactly
+clash-turned g h e =
+    let s = clash-exactly g h .0 e in
+    clash-exactly h g .1
+    (record { street = s .street; town = s .town; number = s .number; first = s .second; second = s .first })
 
 -- it does not matter which row comes first
 pub clash-sym : (g h : List ℕ) → clash g h ≡ clash h g
@@ -244,13 +256,10 @@ clash-sym g h = go (decided (clash g h)) (decided (clash h g))
 
 -- a row that covers a number at all clashes with itself
 pub clash-self : (g : List ℕ) (n : ℕ) → hits g n ≡ true → clash g g ≡ true
-clash-self g n e = go (decided (clash g g))
-  where
-    go : (clash g g ≡ true) ⊎ (clash g g ≡ false) → clash g g ≡ true
-    go (inl f) = f
-    go (inr f) =
-        let o = over-of g (rowStreetOf g) (rowPlaceOf g) n (record { street = refl; town = refl; hit = e }) in
-        absurd (clash-no g g f (rowStreetOf g) (rowPlaceOf g) n o o)
+unfolding ClashExactly
+clash-self g n e =
+    let o = over-of g (rowStreetOf g) (rowPlaceOf g) n (record { street = refl; town = refl; hit = e }) in
+    clash-exactly g g .1 (record { street = rowStreetOf g; town = rowPlaceOf g; number = n; first = o; second = o })
 
 -- and a row of good form does: its low end is at most its high end, and of its parity
 pub clash-itself : (g : List ℕ) (a b : ℕ) → lowOf g ≡ Number a → highOf g ≡ Number b → a ≤ b → allows (parityOf g) a ≡ true
@@ -258,3 +267,36 @@ pub clash-itself : (g : List ℕ) (a b : ℕ) → lowOf g ≡ Number a → highO
 clash-itself g a b p q h e =
     clash-self g a
     (hits-of g a (record { low = a; high = b; is-low = p; is-high = q; above = omega arith; below = h; allowed = e }))
+
+-- ---- the same row
+
+-- fields that are equal as numbers are read alike
+equal-read : (a b : Spelled) → equalNumbers a b ≡ true → a ≡ b
+equal-read (Number m) (Number n) e = ap Number (eqb-true m n e)
+equal-read (Number m) NoNumber e = clash-bool e refl
+equal-read NoNumber b e = clash-bool e refl
+
+-- so are both ends of the same row, and its street fields, parity and ESN are equal bytes
+pub same-alike : SameAlike
+unfolding SameAlike sameRow sameStreet over hits
+same-alike g h e =
+    let a = sameStreet g h in
+    let b = equalNumbers (lowOf g) (lowOf h) in
+    let c = equalNumbers (highOf g) (highOf h) in
+    let p = eqb (parityOf g) (parityOf h) in
+    let z = sameEsn (rowEsnOf g) (rowEsnOf h) in
+    let s = and-left a (b && (c && (p && z))) e in
+    let v = and-right a (b && (c && (p && z))) e in
+    let w = and-right b (c && (p && z)) v in
+    let x = and-right c (p && z) w in
+    let street = same-true (rowStreetOf g) (rowStreetOf h)
+    (and-left (sameBytes (rowStreetOf g) (rowStreetOf h)) (sameBytes (rowPlaceOf g) (rowPlaceOf h)) s) in
+    let town = same-true (rowPlaceOf g) (rowPlaceOf h)
+    (and-right (sameBytes (rowStreetOf g) (rowStreetOf h)) (sameBytes (rowPlaceOf g) (rowPlaceOf h)) s) in
+    let low = equal-read (lowOf g) (lowOf h) (and-left b (c && (p && z)) v) in
+    let high = equal-read (highOf g) (highOf h) (and-left c (p && z) w) in
+    let parity = eqb-true (parityOf g) (parityOf h) (and-left p z x) in
+    record {
+      numbers = λ st t n. rw (street, town, low, high, parity) refl;
+      zone = same-true (rowEsnOf g) (rowEsnOf h) (and-right p z x);
+    }

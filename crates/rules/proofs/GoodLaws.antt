@@ -1,14 +1,14 @@
 -- A file that passes the checks: the stores are sound, each of its lines has its length and keeps the field rules.
 -- Assumes nothing.
-use mathlib.Core.Path.{_≡_, refl, subst}
+use mathlib.Core.Path.{_≡_, refl, ap, subst}
 use mathlib.Core.Logic.{_≢_}
-use mathlib.Core.Bool.{Bool, true, false, _&&_, cond}
+use mathlib.Core.Bool.{Bool, true, false, _&&_, not, cond}
 use mathlib.Core.List.{List}
 use Prim.Native.Nat.{ℕ, _+_, _*_, _-_, _/_, _%_, _≤_, _<_}
 use native.Mathlib.Omega.{arith}
 use lib.Dec.{leb, eqb}
 use lib.ListN.{length}
-use borrow.Author.Tests.{eqb-true, eqb-false, leb-true}
+use borrow.Author.Tests.{eqb-true, eqb-false, leb-true, le-leb, eq-eqb}
 use Rattle.text.proofs.Laws.{and-left, and-right}
 use Rattle.layout.specs.declared.frame.Header.{Header}
 use Rattle.layout.specs.declared.counter.Cycle.{Cycle}
@@ -28,11 +28,12 @@ use Rattle.rules.specs.declared.Checked.{Checked}
 use Rattle.rules.specs.declared.Checked.the-variants.{Good, Refused}
 use Rattle.rules.specs.Walks.{find, onFound}
 use Rattle.rules.specs.Slots.{registerSound, guideSound}
+use Rattle.rules.specs.Answered.{NoneHits}
 use Rattle.rules.specs.Takes.{Stores, lineSize, lineFault, linesIn, goodFile, headerLine, trailerLine, lineAt, refuse, badLine, linesChecked, trailerChecked, frameChecked, checked}
-use Rattle.rules.proofs.WalkLaws.{find-some, find-none, not-false, not-true}
+use Rattle.rules.proofs.WalkLaws.{find-some, find-none, find-nowhere, not-false, not-true}
 use Rattle.rules.proofs.PlaceLaws.{part-length}
 
--- what is known of a file that passes
+-- what is known of a file that passes, whatever its room and its cycle were
 pub record GoodFile (k : Kind) (s : Stores) (f : List ℕ) : Type 0 where
   pub register : registerSound (s .register) ≡ true
   pub guide : guideSound (s .guide) ≡ true
@@ -53,13 +54,13 @@ module _ (P : Checked → Type 0) where
   on-found Nothing x k p q = p refl
 
   -- of a header
-  on-header : (o : Opened) (x : Checked) (k : Header → Checked) → P x → ((h : Header) → P (k h)) → P (onHeader o x k)
-  on-header (aHeader h) x k p q = q h
+  on-header : (o : Opened) (x : Checked) (k : Header → Checked) → P x → ((h : Header) → o ≡ aHeader h → P (k h)) → P (onHeader o x k)
+  on-header (aHeader h) x k p q = q h refl
   on-header noHeader x k p q = p
 
   -- of a trailer
-  on-trailer : (o : Closed) (x : Checked) (k : Count → Checked) → P x → ((c : Count) → P (k c)) → P (onTrailer o x k)
-  on-trailer (aTrailer c) x k p q = q c
+  on-trailer : (o : Closed) (x : Checked) (k : Count → Checked) → P x → ((c : Count) → o ≡ aTrailer c → P (k c)) → P (onTrailer o x k)
+  on-trailer (aTrailer c) x k p q = q c refl
   on-trailer noTrailer x k p q = p
 
 -- no line is bad where none is found
@@ -89,19 +90,32 @@ pub checked-by : (P : Checked → Type 0) (k : Kind) (s : Stores) (f : List ℕ)
     → (registerSound (s .register) ≡ false → P (refuse 1)) → (guideSound (s .guide) ≡ false → P (refuse 2))
     → P (refuse 3) → P (refuse 4) → P (refuse 5) → P (refuse 6) → P (refuse 7) → P (refuse 8)
     → ((i : ℕ) → BadLine k f i → P (Refused (record { number = 9; place = i + 1; position = lineFault k (lineAt k f i) })))
-    → ((h : Header) → GoodFile k s f → P (Good h)) → P (checked k s f room last)
+    → ((h : Header) → NoneHits k s f room last h → P (Good h)) → P (checked k s f room last)
 unfolding checked frameChecked trailerChecked linesChecked
 checked-by P k s f room last p1 p2 p3 p4 p5 p6 p7 p8 p9 p0 =
     on-test P (registerSound (s .register)) _ _ (λ a.
     on-test P (guideSound (s .guide)) _ _ (λ b.
     on-test P (goodFile k f) _ _ (λ c.
     on-test P (leb (linesIn k f) room) _ _ (λ d.
-    on-header P (headerOf header (headerLine f)) _ _ p5 (λ h.
+    on-header P (headerOf header (headerLine f)) _ _ p5 (λ h head.
     on-test P (isNextOf last (h .cycle)) _ _ (λ e.
-    on-trailer P (trailerOf trailer (headerLine f) (trailerLine f)) _ _ p7 (λ n.
+    on-trailer P (trailerOf trailer (headerLine f) (trailerLine f)) _ _ p7 (λ n tail.
     on-test P (isCount n (linesIn k f)) _ _ (λ g.
     on-found P (find (badLine k f) (linesIn k f)) _ _
-    (λ o. p0 h (record { register = a; guide = b; long = c; lines = lines-good k f o }))
+    (λ o.
+    p0 h
+    (record {
+      register = a;
+      guide = b;
+      long = c;
+      fits = leb-true (linesIn k f) room d;
+      head = head;
+      next = e;
+      count = n;
+      tail = tail;
+      counted = g;
+      lines = lines-good k f o;
+    }))
     (λ i o. p9 i (line-bad k f i o)))
     (λ e. p8)))
     (λ e. p6)))
@@ -112,17 +126,45 @@ checked-by P k s f room last p1 p2 p3 p4 p5 p6 p7 p8 p9 p0 =
 
 -- ---- a file that passes
 
--- A is so where the checks say good
-abbrev IfGood : Type 0 → Checked → Type 0
-IfGood A (Good h) = A
-IfGood A (Refused r) = Unit {0}
+-- P is so of the header that the checks say is good
+abbrev IfGood : (Header → Type 0) → Checked → Type 0
+IfGood P (Good h) = P h
+IfGood P (Refused r) = Unit {0}
 
--- what is known of a file that the checks say is good
+-- where the checks say good, none of the nine tests hits
+pub good-passed : (k : Kind) (s : Stores) (f : List ℕ) (room : ℕ) (last : Cycle) (h : Header) → checked k s f room last ≡ Good h
+    → NoneHits k s f room last h
+good-passed k s f room last h e =
+    subst (IfGood (NoneHits k s f room last)) e
+    (checked-by (IfGood (NoneHits k s f room last)) k s f room last (λ x. tt) (λ x. tt) tt tt tt tt tt tt (λ i b. tt) (λ x g. g))
+
+-- and where none hits, they say good: each test is passed, and no line is found
+pub passed-good : (k : Kind) (s : Stores) (f : List ℕ) (room : ℕ) (last : Cycle) (h : Header) → NoneHits k s f room last h
+    → checked k s f room last ≡ Good h
+unfolding checked frameChecked trailerChecked linesChecked badLine
+passed-good k s f room last h p =
+    rw (
+      p .register,
+      p .guide,
+      p .long,
+      le-leb (linesIn k f) room (p .fits),
+      p .head,
+      p .next,
+      p .tail,
+      p .counted,
+      find-nowhere (badLine k f) (linesIn k f) (λ i l. ap not (eq-eqb (lineFault k (lineAt k f i)) 0 (p .lines i l))),
+    ) refl
+
+-- of a file that passes
 pub good-file : (k : Kind) (s : Stores) (f : List ℕ) (room : ℕ) (last : Cycle) (h : Header) → checked k s f room last ≡ Good h
     → GoodFile k s f
 good-file k s f room last h e =
-    subst (IfGood (GoodFile k s f)) e
-    (checked-by (IfGood (GoodFile k s f)) k s f room last (λ x. tt) (λ x. tt) tt tt tt tt tt tt (λ i b. tt) (λ x g. g))
+    let g = good-passed k s f room last h e in
+    record { register = g .register; guide = g .guide; long = g .long; lines = g .lines }
+
+-- it has room for its answers
+pub good-room : (k : Kind) (s : Stores) (f : List ℕ) (room : ℕ) (last : Cycle) (h : Header) → checked k s f room last ≡ Good h → linesIn k f ≤ room
+good-room k s f room last h e = good-passed k s f room last h e .fits
 
 -- a file of good length has header, whole lines and trailer
 pub file-long : (k : Kind) (f : List ℕ) → goodFile k f ≡ true → length f ≡ 400 + linesIn k f * lineSize k
@@ -147,16 +189,3 @@ pub line-long : (k : Kind) (f : List ℕ) (i : ℕ) → goodFile k f ≡ true �
 unfolding lineAt
 line-long Data f i e h = part-length (200 + i * 512) 512 f (omega (arith, file-long Data f e))
 line-long Guide f i e h = part-length (200 + i * 200) 200 f (omega (arith, file-long Guide f e))
-
--- a file that passes has room for its answers
-pub good-room : (k : Kind) (s : Stores) (f : List ℕ) (room : ℕ) (last : Cycle) (h : Header) → checked k s f room last ≡ Good h → linesIn k f ≤ room
-unfolding checked
-good-room k s f room last h e =
-    leb-true (linesIn k f) room (go (registerSound (s .register)) (guideSound (s .guide)) (goodFile k f) (leb (linesIn k f) room) e)
-  where
-    go : (a b c d : Bool) → cond a (cond b (cond c (cond d (frameChecked k f last) (refuse 4)) (refuse 3)) (refuse 2)) (refuse 1) ≡ Good h → d ≡ true
-    go true true true true g = refl
-    go true true true false g = let z : _≡_ {A = ℕ} 0 1 = cc in absurd (omega arith)
-    go true true false d g = let z : _≡_ {A = ℕ} 0 1 = cc in absurd (omega arith)
-    go true false c d g = let z : _≡_ {A = ℕ} 0 1 = cc in absurd (omega arith)
-    go false b c d g = let z : _≡_ {A = ℕ} 0 1 = cc in absurd (omega arith)

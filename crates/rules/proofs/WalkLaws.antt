@@ -2,7 +2,7 @@
 -- Assumes nothing.
 use mathlib.Core.Path.{_≡_, refl, sym, _∙_, subst}
 use mathlib.Core.Logic.{_⊎_, inl, inr, _≢_}
-use mathlib.Core.Bool.{Bool, true, false, not, _&&_, cond, true≢false}
+use mathlib.Core.Bool.{Bool, true, false, not, _&&_, _||_, cond, true≢false}
 use mathlib.Core.List.{List, [], _∷_, _++_}
 use Prim.Native.Nat.{ℕ, zero, suc, _+_, _≤_, _<_}
 use native.Mathlib.Nat.{not-suc-le-zero, lt-irrefl}
@@ -10,9 +10,9 @@ use native.Mathlib.Decide.{ℕ-discrete, decLt}
 use native.Mathlib.Numerals.{add-one}
 use native.Mathlib.Omega.{arith}
 use lib.Dec.{eqb, ltb}
-use borrow.Author.Tests.{ltb-true, ne-eqb}
+use borrow.Author.Tests.{ltb-true, eq-eqb, ne-eqb}
 use Rattle.text.specs.Text.{memberOf}
-use Rattle.text.proofs.Laws.{and-left, and-right}
+use Rattle.text.proofs.Laws.{and-left, and-right, and-false, or-right}
 use Rattle.rules.specs.declared.Found.{Found}
 use Rattle.rules.specs.declared.Found.the-variants.{At, Nothing}
 use Rattle.rules.specs.Walks.{orElse, isNothing, find, walked, sought, count, first}
@@ -197,6 +197,34 @@ first-in set (h ∷ t) z e = go (first-in set t z (and-right (memberOf (h .1) se
     go : memberOf (first t) set ≡ true → (b : Bool) → memberOf (cond b (h .1) (first t)) set ≡ true
     go ih true = and-left (memberOf (h .1) set) (numbersIn set t) e
     go ih false = ih
+
+-- a row with this number hits
+unfoldable pub hitBy : ℕ → List (Bool × ℕ) → Bool
+hitBy n [] = false
+hitBy n (h ∷ t) = (eqb (h .1) n && h .0) || hitBy n t
+
+-- the number that the first hit decides for is that of a row that hits
+pub first-hit : (n : ℕ) (l : List (Bool × ℕ)) → n ≢ 0 → first l ≡ n → hitBy n l ≡ true
+unfolding first hitBy
+first-hit n [] z e = absurd (z (sym e))
+first-hit n (h ∷ t) z e = go (first-hit n t z) (h .0) refl e
+  where
+    go : (first t ≡ n → hitBy n t ≡ true) → (b : Bool) → h .0 ≡ b → cond b (h .1) (first t) ≡ n
+        → (eqb (h .1) n && h .0) || hitBy n t ≡ true
+    go ih true q e = rw (q, eq-eqb (h .1) n e) refl
+    go ih false q e = or-right (eqb (h .1) n && h .0) (hitBy n t) (ih e)
+
+-- where some row hits, the first hit decides for a number of the table
+pub first-some : (n : ℕ) (set : List ℕ) (l : List (Bool × ℕ)) → hitBy n l ≡ true → numbersIn set l ≡ true
+    → memberOf (first l) set ≡ true
+unfolding first hitBy numbersIn
+first-some n set [] k e = clash-bool k refl
+first-some n set (h ∷ t) k e =
+    go (λ f. first-some n set t f (and-right (memberOf (h .1) set) (numbersIn set t) e)) (h .0) refl
+  where
+    go : (hitBy n t ≡ true → memberOf (first t) set ≡ true) → (b : Bool) → h .0 ≡ b → memberOf (cond b (h .1) (first t)) set ≡ true
+    go ih true q = and-left (memberOf (h .1) set) (numbersIn set t) e
+    go ih false q = ih (rw (q, and-false (eqb (h .1) n)) at k)
 
 -- two tables, one after the other
 pub first-append : (a b : List (Bool × ℕ)) → positive a ≡ true → first (a ++ b) ≡ cond (eqb (first a) 0) (first b) (first a)

@@ -1,21 +1,35 @@
 -- The brief's first demand, as statements: "Every file, register and guide handed over, however damaged, is answered. In taking and
 -- writing, a bad one is refused by a number from the description, and a refused file changes no byte lent to us. A refused record
 -- changes only its own answer byte." Proved in `proofs/Answers`, for all inputs: take-answered, line-answered, load-answered,
--- lookup-answered; and one outcome for each of the four promises: one-data, one-guide, one-load, one-lookup.
+-- full-answered, lookup-answered; and one outcome for each of the four promises: one-data, one-guide, one-load, one-lookup.
 -- Assumes nothing.
 use Prim.Native.Nat.{ℕ, _+_, _*_, _/_, _%_, _≤_, _<_}
 use mathlib.Core.Path.{_≡_}
 use mathlib.Core.Logic.{_≢_}
 use mathlib.Core.List.{List, [], _∷_}
-use mathlib.Core.Bool.{true}
-use lib.ListN.{drop, getD}
+use mathlib.Core.Bool.{true, false}
+use lib.ListN.{length, drop, getD}
 use Rattle.text.specs.Text.{memberOf}
+use Rattle.calendar.specs.declared.Day.{Day}
+use Rattle.layout.specs.declared.counter.Cycle.{Cycle}
+use Rattle.layout.specs.declared.counter.Count.{Count}
 use Rattle.layout.specs.declared.frame.Header.{Header}
+use Rattle.layout.specs.declared.frame.Opened.the-variants.{Header as aHeader}
+use Rattle.layout.specs.declared.frame.Closed.the-variants.{Trailer as aTrailer}
+use Rattle.layout.specs.Tables.{header, trailer}
+use Rattle.layout.specs.Counters.{givenCycle, isNextOf, isCount}
+use Rattle.layout.specs.Fields.{numberOf}
+use Rattle.layout.specs.Frames.{headerOf, trailerOf}
+use Rattle.rules.specs.declared.Code.{Code}
+use Rattle.rules.specs.declared.Code.the-variants.{Insert}
+use Rattle.rules.specs.declared.Found.the-variants.{Nothing}
 use Rattle.rules.specs.declared.Kind.{Kind}
 use Rattle.rules.specs.declared.Kind.the-variants.{Data, Guide}
 use Rattle.rules.specs.declared.Taken.{Taken}
 use Rattle.rules.specs.declared.Loaded.{Loaded}
-use Rattle.rules.specs.Takes.{Stores, Outcome, Answered, lineTable, linesIn, lineApplied, taken, TakesData, TakesGuide}
+use Rattle.rules.specs.Slots.{slots, slotAt, stateOf, isFree, registerSound, guideSound}
+use Rattle.rules.specs.Records.{findNumber, isReusable, answerOf}
+use Rattle.rules.specs.Takes.{Stores, Outcome, Answered, lineTable, lineFault, linesIn, goodFile, headerLine, trailerLine, lineAt, lineApplied, answerAt, taken, TakesData, TakesGuide}
 use Rattle.rules.specs.Lookups.{seen, packed, LooksUp}
 use Rattle.rules.specs.Loads.{Load, loaded, WritesLoad}
 
@@ -52,11 +66,28 @@ pub record TakeRefused (s : Stores) (before : List ℕ) (given : ℕ) (o : Outco
   pub undone : o .result .undone ≡ 0
   pub last : o .result .last ≡ given
 
--- "answer byte i is written, bytes past n stay. Returned: n, how many answers are 0, how many not"; place and position are 0
-pub record TakeDone (k : Kind) (f answers : List ℕ) (o : Outcome) : Type 0 where
+-- none of the nine tests hits: the stores, the file's length, the room for answers, header, cycle, trailer, count and lines
+pub record NoneHits (k : Kind) (s : Stores) (f : List ℕ) (room : ℕ) (last : Cycle) (h : Header) : Type 0 where
+  pub register : registerSound (s .register) ≡ true
+  pub guide : guideSound (s .guide) ≡ true
+  pub long : goodFile k f ≡ true
+  pub fits : linesIn k f ≤ room
+  pub head : headerOf header (headerLine f) ≡ aHeader h
+  pub next : isNextOf last (h .cycle) ≡ true
+  pub count : Count
+  pub tail : trailerOf trailer (headerLine f) (trailerLine f) ≡ aTrailer count
+  pub counted : isCount count (linesIn k f) ≡ true
+  pub lines : (i : ℕ) → i < linesIn k f → lineFault k (lineAt k f i) ≡ 0
+
+-- "answer byte i is written, bytes past n stay. Returned: n, how many answers are 0, how many not, the new last cycle": under the
+-- header h, where none of the nine hits
+pub record TakeDone (k : Kind) (s : Stores) (f answers : List ℕ) (given : ℕ) (o : Outcome) (h : Header) : Type 0 where
+  pub passed : NoneHits k s f (length answers) (givenCycle given) h
   pub records : o .result .records ≡ linesIn k f
   pub counts : o .result .done + o .result .undone ≡ linesIn k f
-  pub each : (i : ℕ) → i < linesIn k f → memberOf (getD (o .answers) i 0) (answerNumbers k) ≡ true
+  pub last : o .result .last ≡ h .cycle .0
+  pub each : (i : ℕ) → i < linesIn k f → getD (o .answers) i 0 ≡ answerAt k h f s i
+  pub number : (i : ℕ) → i < linesIn k f → memberOf (getD (o .answers) i 0) (answerNumbers k) ≡ true
   pub rest : drop (linesIn k f) (o .answers) ≡ drop (linesIn k f) answers
 
 -- "(both 0 except in 9: first bad record from 1, first byte of its first bad field)"
@@ -65,10 +96,12 @@ pub record Placed (k : Kind) (f : List ℕ) (t : Taken) : Type 0 where
   pub to : t .place ≤ linesIn k f
   pub field : memberOf (t .position) (startsIn (lineTable k)) ≡ true
 
+-- a take is refused by a number of the table, or done; it is done exactly where none of the nine tests hits
 pub record TakeAnswered (k : Kind) (s : Stores) (f answers : List ℕ) (last : ℕ) (o : Outcome) : Type 0 where
   pub number : memberOf (o .result .refusal) takeNumbers ≡ true
   pub refused : o .result .refusal ≢ 0 → TakeRefused s answers last o
-  pub done : o .result .refusal ≡ 0 → TakeDone k f answers o
+  pub done : o .result .refusal ≡ 0 → (h : Header) × TakeDone k s f answers last o h
+  pub taken : (h : Header) → NoneHits k s f (length answers) (givenCycle last) h → o .result .refusal ≡ 0
   pub placed : o .result .refusal ≡ 9 → Placed k f (o .result)
   pub unplaced : o .result .refusal ≢ 9 → (o .result .place ≡ 0) × (o .result .position ≡ 0)
 
@@ -83,6 +116,21 @@ pub record LineAnswered (k : Kind) (s : Stores) (a : Answered) : Type 0 where
 
 unfoldable pub LinesAnswer : Type 0
 LinesAnswer = (k : Kind) (h : Header) (r : List ℕ) (s : Stores) → LineAnswered k s (lineApplied k h r s)
+
+-- 20 | "I, absent: no free slot, and no resting slot at least 90 days before the header's date"
+pub record Full (R : List ℕ) (h : Header) (r : List ℕ) (c : Code) : Type 0 where
+  pub insert : c ≡ Insert
+  pub absent : findNumber (numberOf r) R ≡ Nothing
+  pub free : (i : ℕ) → i < slots R → isFree (stateOf (slotAt R i)) ≡ false
+  pub reusable : (i : ℕ) → i < slots R → isReusable (h .day) (slotAt R i) ≡ false
+
+-- an answer of 20 means just that; and then the answer is 20, or one of 11 to 19 that stand before it
+pub record FullAnswered (R G : List ℕ) (h : Header) (r : List ℕ) (c : Code) (d : Day) : Type 0 where
+  pub means : answerOf R G h r c d ≡ 20 → Full R h r c
+  pub then : Full R h r c → memberOf (answerOf R G h r c d) (drop 1 (answerNumbers Data)) ≡ true
+
+unfoldable pub FullsAnswer : Type 0
+FullsAnswer = (R G : List ℕ) (h : Header) (r : List ℕ) (c : Code) (d : Day) → FullAnswered R G h r c d
 
 -- ---- the load file
 

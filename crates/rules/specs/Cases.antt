@@ -11,7 +11,7 @@ use Rattle.calendar.specs.Calendar.{dayOf, onDay}
 use Rattle.layout.specs.Counters.{givenCycle, isNextOf}
 use Rattle.layout.specs.Fields.{lowOf, highOf, parityOf, allows, rowStreetOf, rowPlaceOf}
 use Rattle.rules.specs.Slots.{stateOf, slotDay, slotOf}
-use Rattle.rules.specs.Covers.{sameStreet, meetFrom, meets, clash}
+use Rattle.rules.specs.Covers.{hits, sameStreet, meetFrom, meets, clash}
 use Rattle.rules.specs.Records.{isReusable}
 
 -- six bytes MMDDYY
@@ -28,6 +28,10 @@ isNoDate f = onDay (dayOf f) true (λ d. false)
 abbrev pub rowWith : ℕ → ℕ → ℕ → List ℕ
 rowWith p low high = spaces 68 ++ (leftDigits low (spaces 10) ++ (leftDigits high (spaces 10) ++ (spaces 34 ++ (p ∷ []))))
 
+-- both rows have house number n
+abbrev pub bothHit : List ℕ → List ℕ → ℕ → Bool
+bothHit g h n = hits g n && hits h n
+
 -- a slot that rests since a day, and another day
 abbrev pub restingSince : ℕ → List ℕ
 restingSince n = slotOf 3 (record { 0 = n }) []
@@ -36,14 +40,15 @@ abbrev pub onDayNumber : ℕ → Day
 onDayNumber n = record { 0 = n }
 
 pub table : List Bool
-unfolding dayOf spelled runsOf leftDigits amongSpaces width clash sameStreet meets meetFrom lowOf highOf parityOf allows rowStreetOf rowPlaceOf isReusable stateOf slotDay slotOf
+unfolding dayOf spelled runsOf leftDigits amongSpaces width clash hits sameStreet meets meetFrom lowOf highOf parityOf allows rowStreetOf rowPlaceOf isReusable stateOf slotDay slotOf
 table =
     isDayNumber 0 (mmddyy 1 1 0)  -- P1: 010100 is day 0
     ∷ isDayNumber 59 (mmddyy 2 29 0)  -- P2: 022900 is 59
     ∷ isNoDate (mmddyy 2 29 1)  -- P3: 022901 is no date
     ∷ isDayNumber 36524 (mmddyy 12 31 99)  -- P4: 123199 is 36524
     ∷ not (clash (rowWith 66 300 300) (rowWith 79 201 399))  -- P5: B 300-300 and O 201-399 don't clash
-    ∷ clash (rowWith 66 100 200) (rowWith 79 51 101)  -- P6: B 100-200 and O 51-101 clash
+    ∷ (clash (rowWith 66 100 200) (rowWith 79 51 101) && bothHit (rowWith 66 100 200) (rowWith 79 51 101) 101)
+    -- P6: B 100-200 and O 51-101 clash (101)
     ∷ not (clash (rowWith 69 100 198) (rowWith 79 101 199))  -- P7: E 100-198 and O 101-199 don't
     ∷ isReusable (onDayNumber 190) (restingSince 100)  -- P8: a number resting since day 100: reusable on day 190
     ∷ not (isReusable (onDayNumber 189) (restingSince 100))  -- P9: not on 189

@@ -1,8 +1,9 @@
 -- 01, "A row covers an address", and when two rows clash or are the same.
 -- Assumes nothing.
 use Prim.Native.Nat.{ℕ, _+_, min, max}
+use mathlib.Core.Path.{_≡_}
 use mathlib.Core.List.{List}
-use mathlib.Core.Bool.{Bool, false, _&&_, _||_}
+use mathlib.Core.Bool.{Bool, true, false, _&&_, _||_}
 use lib.Dec.{leb, eqb}
 use Rattle.text.specs.declared.Spelled.{Spelled}
 use Rattle.text.specs.Text.{sameBytes, onNumber}
@@ -50,6 +51,18 @@ meets g h =
 unfoldable pub clash : List ℕ → List ℕ → Bool
 clash g h = sameStreet g h && meets g h
 
+-- a house number of a street in a place that both rows stand over
+pub record Shared (g h : List ℕ) : Type 0 where
+  pub street : List ℕ
+  pub town : List ℕ
+  pub number : ℕ
+  pub first : over g street town number ≡ true
+  pub second : over h street town number ≡ true
+
+-- two rows clash exactly if there is one. Proved in `proofs/ClashLaws`: clash-exactly
+unfoldable pub ClashExactly : Type 0
+ClashExactly = (g h : List ℕ) → (clash g h ≡ true → Shared g h) × (Shared g h → clash g h ≡ true)
+
 -- two fields of digits, "as numbers"
 abbrev pub equalNumbers : Spelled → Spelled → Bool
 equalNumbers a b = onNumber a false (λ m. onNumber b false (λ n. eqb m n))
@@ -62,3 +75,13 @@ sameRow g h =
     && (equalNumbers (highOf g) (highOf h)
     && (eqb (parityOf g) (parityOf h)
     && sameEsn (rowEsnOf g) (rowEsnOf h))))
+
+-- two rows that stand over the same house numbers, and have the same ESN
+pub record Alike (g h : List ℕ) : Type 0 where
+  pub numbers : (street town : List ℕ) (n : ℕ) → over g street town n ≡ over h street town n
+  pub zone : rowEsnOf g ≡ rowEsnOf h
+
+-- the same row is one of them: a D takes away just the house numbers that it names, with just its zone. Proved in
+-- `proofs/ClashLaws`: same-alike
+unfoldable pub SameAlike : Type 0
+SameAlike = (g h : List ℕ) → sameRow g h ≡ true → Alike g h

@@ -65,13 +65,15 @@ isLaterEntry day s = isLive (stateOf s) && isBefore day (slotDay s)
 unfoldable pub laterAt : Day → List ℕ → ℕ → Bool
 laterAt day R i = isLaterEntry day (slotAt R i)
 
--- "26 if date, name or cycle breaks the header's rules .. or the date is before an entry's day; 25 if the output is too short"
+-- 26 | "date, name or cycle breaks the header's rules (lengths 6 and 50 included) or the date is before an entry's day"
+-- 25 | "the output is too short"
 unfoldable pub headerRefusal : List ℕ → List ℕ → List ℕ → ℕ → ℕ → ℕ
 headerRefusal R date company c room =
     onHeader (loadHeader date company c) 26 (λ h.
     onFound (find (laterAt (h .day) R) (slots R)) (cond (leb (loadSize R) room) 0 25) (λ i. 26))
 
--- 1, for an unsound register, and then the others
+-- 1 | "register length or a slot unsound"
+-- and then the others
 unfoldable pub loadRefusal : List ℕ → List ℕ → List ℕ → ℕ → ℕ → ℕ
 loadRefusal R date company c room = cond (registerSound R) (headerRefusal R date company c room) 1
 

@@ -136,20 +136,20 @@ tooEarly R m c d =
 abbrev pub otherEsn : List ℕ → Found → List ℕ → Bool
 otherEsn G k r = onFound k false (λ j. hasEsn r && not (sameEsn (esnOf r) (rowEsnOf (rowOf (rowSlotAt G j)))))
 
--- "First hit decides"
+-- "First hit decides:" a test and its answer, row by row
 abbrev pub table : List ℕ → List ℕ → Header → List ℕ → Code → Day → Found → Found → Found → List (Bool × ℕ)
 table R G h r c d m k p =
-    (isBefore (h .day) d, 11)
-    ∷ (isInsert c && isLive (stateIn R m), 12)
-    ∷ (not (isInsert c) && not (isLive (stateIn R m)), 13)
-    ∷ (isMigrate c && isHeld (stateIn R m), 14)
-    ∷ (isOwn c && isOpen (stateIn R m), 15)
-    ∷ (isOwn c && (isHeld (stateIn R m) && otherCompany R m r), 16)
-    ∷ (tooEarly R m c d, 17)
-    ∷ (stores c && isNothing k, 18)
-    ∷ (stores c && otherEsn G k r, 19)
-    ∷ (isInsert c && (isNothing m && isNothing p), 20)
-    ∷ []
+    (isBefore (h .day) d, 11)  -- "record date after the header's date"
+    ∷ (isInsert c && isLive (stateIn R m), 12)  -- "I, number held or open"
+    ∷ (not (isInsert c) && not (isLive (stateIn R m)), 13)  -- "C, D, U, M, number absent or resting"
+    ∷ (isMigrate c && isHeld (stateIn R m), 14)  -- "M, held"
+    ∷ (isOwn c && isOpen (stateIn R m), 15)  -- "C, D, U, open"
+    ∷ (isOwn c && (isHeld (stateIn R m) && otherCompany R m r), 16)  -- "C, D, U, held, Company ID differs from the slot's"
+    ∷ (tooEarly R m c d, 17)  -- "date before the slot's day; for I on a resting number, same day or before"
+    ∷ (stores c && isNothing k, 18)  -- "I, C, M: no guide row covers the address"
+    ∷ (stores c && otherEsn G k r, 19)  -- "I, C, M: ESN not blank and differs from that of the lowest covering row"
+    ∷ (isInsert c && (isNothing m && isNothing p), 20)  -- "I, absent: no free slot, and no resting slot at least 90 days before .."
+    ∷ []  -- 0: "otherwise"
 
 unfoldable pub answerOf : List ℕ → List ℕ → Header → List ℕ → Code → Day → ℕ
 answerOf R G h r c d =

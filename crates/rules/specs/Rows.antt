@@ -62,11 +62,19 @@ hasEntry R G m = onFound m false (λ k. not (isNothing (findEntry (rowOf (rowSlo
 
 -- ---- the two tables
 
+-- I, on the row c that clashes with it and the free slot p
 abbrev pub insertTable : Found → Found → List (Bool × ℕ)
-insertTable c p = (not (isNothing c), 21) ∷ (isNothing p, 22) ∷ []
+insertTable c p =
+    (not (isNothing c), 21)  -- "21 if some house number is covered by it and by a present row of the same street fields"
+    ∷ (isNothing p, 22)  -- "22 if no free slot"
+    ∷ []
 
+-- D, on the row m that is the same
 abbrev pub deleteTable : List ℕ → List ℕ → Found → List (Bool × ℕ)
-deleteTable R G m = (isNothing m, 23) ∷ (hasEntry R G m, 24) ∷ []
+deleteTable R G m =
+    (isNothing m, 23)  -- "23 if no row has the same street fields, Low and High as numbers, parity and ESN bytes"
+    ∷ (hasEntry R G m, 24)  -- "24 if a held or open entry is covered by the lowest such row"
+    ∷ []
 
 abbrev pub rowAnswerOf : List ℕ → List ℕ → List ℕ → RowCode → ℕ
 rowAnswerOf R G g Insert = first (insertTable (findClash g G) (findVacant G))

@@ -57,7 +57,7 @@ isOpen b = eqb b 2
 abbrev pub isResting : ℕ → Bool
 isResting b = eqb b 3
 
--- a slot not free has state 1, 2 or 3
+-- held, open or resting; a state above 3 is neither free nor used
 abbrev pub isUsed : ℕ → Bool
 isUsed b = leb 1 b && leb b 3
 

@@ -73,25 +73,33 @@ refuse n = Refused (record { number = n; place = 0; position = 0 })
 unfoldable pub badLine : Kind → List ℕ → ℕ → Bool
 badLine k f i = not (eqb (lineFault k (lineAt k f i)) 0)
 
--- "a record breaks a field rule": "first bad record from 1, first byte of its first bad field"
+-- 9 | "a record breaks a field rule": "first bad record from 1, first byte of its first bad field"
 unfoldable pub linesChecked : Kind → List ℕ → Header → Checked
 linesChecked k f h =
     onFound (find (badLine k f) (linesIn k f)) (Good h) (λ i.
     Refused (record { number = 9; place = i + 1; position = lineFault k (lineAt k f i) }))
 
--- 7 and 8, and then the lines
+-- 7 | "trailer wrong, or its date or name differs from the header's"
+-- 8 | "trailer count isn't n"
+-- and then the lines
 unfoldable pub trailerChecked : Kind → List ℕ → Header → Checked
 trailerChecked k f h =
     onTrailer (trailerOf trailer (headerLine f) (trailerLine f)) (refuse 7) (λ c.
     cond (isCount c (linesIn k f)) (linesChecked k f h) (refuse 8))
 
--- 5 and 6, and then the trailer
+-- 5 | "header wrong"
+-- 6 | "cycle isn't the next: last + 1, after 999999 is 1; last is 0 if none yet; last above 999999"
+-- and then the trailer
 unfoldable pub frameChecked : Kind → List ℕ → Cycle → Checked
 frameChecked k f last =
     onHeader (headerOf header (headerLine f)) (refuse 5) (λ h.
     cond (isNextOf last (h .cycle)) (trailerChecked k f h) (refuse 6))
 
--- 1 to 4, and then header, trailer and lines; room is the length of the answers buffer
+-- 1 | "register length or a slot unsound"
+-- 2 | "guide length or a slot unsound"
+-- 3 | "file length isn't 400 + 512n (guide: 400 + 200n), n at most 9999"
+-- 4 | "answers buffer shorter than n": room is its length
+-- and then header, trailer and lines
 unfoldable pub checked : Kind → Stores → List ℕ → ℕ → Cycle → Checked
 checked k s f room last =
     cond (registerSound (s .register))
