@@ -1,4 +1,5 @@
--- The turns of the two loops over the lines of a file: the checks, and what is applied.
+-- The turns of the loops over the lines of a file, those that check and those that apply; what a good file gives them, the bound on
+-- its lines, and what is returned at the end.
 -- Assumes nothing.
 use mathlib.Core.Path.{_≡_, _∙_, refl, sym, ap}
 use mathlib.Core.Bool.{Bool, true, false, _&&_, cond}

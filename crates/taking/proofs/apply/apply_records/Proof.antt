@@ -1,3 +1,6 @@
+-- After i records (Turned) register and answers are the definition's, done counts the zeros among the answers, and n - i falls. turned-more
+-- makes apply_record's promise one turn more, with count-zero or count-other by the way through the if; turned-all is the end. done <= i
+-- keeps the count in 32 bits.
 use mathlib.Core.Path.{_≡_, _∙_, refl, ap}
 use mathlib.Core.Logic.{⊎-elim}
 use mathlib.Core.List.{List}

@@ -1,3 +1,5 @@
+-- After i rows (Turned) guide and answers are the definition's, the register is the lent one, done counts the zeros, and n - i falls.
+-- turned-more makes apply_row's promise one turn more, count-zero and count-other count its answer, and turned-all is the end.
 use mathlib.Core.Path.{_≡_, _∙_, refl, ap}
 use mathlib.Core.Logic.{⊎-elim}
 use mathlib.Core.List.{List}

@@ -1,3 +1,5 @@
+-- The four tests stand in the order of checked, and each return is the arm that they select; le-leb and lt-leb make the comparison with
+-- the room its test. check_frame asks for at most 9999 lines: good-lines draws that from is_good_file's true.
 use mathlib.Core.Path.{_∙_, sym}
 use denote.Ref.{now}
 use borrow.Author.Needs.{needs}

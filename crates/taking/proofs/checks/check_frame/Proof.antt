@@ -1,3 +1,5 @@
+-- The tests stand in frameChecked's order, each rewritten by its callee's promise: Wrong is refusal 5, a cycle that is not the next is 6,
+-- and else check_trailer answers; the bound on the lines is handed on to it as it came.
 use borrow.Author.Needs.{needs}
 use Rattle.rules.specs.Takes.{frameChecked}
 use Rattle.taking.proofs.checks.check_frame.Tie as tie

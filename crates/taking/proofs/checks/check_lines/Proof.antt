@@ -1,3 +1,5 @@
+-- No line below i is bad, and n - i falls. A line with a fault is the one that find gives (lines-bad); at the end find has nothing
+-- (lines-good). line_at's promise makes the fault that of line i, and n is linesIn because the caller says so.
 use Prim.Native.Nat.{_-_}
 use native.Mathlib.Omega.{arith}
 use denote.Ref.{now}

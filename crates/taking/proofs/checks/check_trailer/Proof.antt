@@ -1,3 +1,5 @@
+-- The tests stand in trailerChecked's order: Wrong from trailer_in is refusal 7, a count that is not linesIn is 8, and else check_lines
+-- answers. What that asks of n is lines_in's promise, and the given bound said of n.
 use borrow.Author.Needs.{needs}
 use Rattle.rules.specs.Takes.{trailerChecked}
 use Rattle.taking.proofs.checks.check_trailer.Tie as tie

@@ -1,3 +1,4 @@
+-- headerLine is the part of 200 bytes from 0, and part_of promises just that, however short the file is.
 use borrow.Author.Needs.{needs}
 use Rattle.rules.specs.Takes.{headerLine}
 use Rattle.taking.proofs.checks.header_line.Tie as tie

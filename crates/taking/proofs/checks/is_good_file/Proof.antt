@@ -1,3 +1,5 @@
+-- A file below 400 bytes fails the first test of goodFile (lt-leb). From there on it passes, and the two others are the code's own once
+-- lines_in's promise gives the count and the arm the size of a line.
 use borrow.Author.Needs.{needs}
 use borrow.Author.Tests.{le-leb, lt-leb}
 use Rattle.rules.specs.Takes.{goodFile}

@@ -1,3 +1,4 @@
+-- Each arm knows the kind, so lineSize is the arm's size and part_of's promise is lineAt; with i at most 9999 nothing overflows.
 use borrow.Author.Needs.{needs}
 use Rattle.rules.specs.Takes.{lineAt}
 use Rattle.taking.proofs.checks.line_at.Tie as tie

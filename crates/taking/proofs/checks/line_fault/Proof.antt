@@ -1,3 +1,4 @@
+-- Each arm is the promise of record_fault or row_fault, lineFault of that kind; no field of either table starts behind 512 (line-fault-le).
 use borrow.Author.Needs.{needs}
 use Rattle.rules.specs.declared.Kind.the-variants.{Data, Guide}
 use Rattle.rules.proofs.FaultLaws.{line-fault-le}

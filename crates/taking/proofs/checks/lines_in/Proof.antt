@@ -1,3 +1,5 @@
+-- Below 400 bytes the definition's length - 400 is 0, and no line fits in 0 bytes (zero-div). From there on the quotient is linesIn itself,
+-- once the arm says which size the kind's lines have.
 use mathlib.Core.Path.{_≡_, sym}
 use Prim.Native.Nat.{_-_}
 use native.Mathlib.Nat.{zero-div}

@@ -1,3 +1,4 @@
+-- Below 200 bytes the definition's length - 200 is 0, so it means the part from 0 too; from there on the code's difference is its own.
 use mathlib.Core.Path.{_≡_}
 use Prim.Native.Nat.{_-_}
 use native.Mathlib.Omega.{arith}

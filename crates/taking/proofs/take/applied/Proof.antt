@@ -1,3 +1,4 @@
+-- n is at most 9999, so it is the same number in 32 bits; done is at most n, so records - done is n - done; last is number's promise.
 use borrow.Author.Needs.{needs}
 use Rattle.taking.proofs.take.applied.Tie as tie
 use Rattle.taking.proofs.take.applied.Statement.{statement}

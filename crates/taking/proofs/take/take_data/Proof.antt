@@ -1,3 +1,6 @@
+-- Where the checks refuse, refused-is makes the take refusedFile, and no lent byte was written. Where they say good, good-is makes it
+-- appliedFile: good-lines and good-room give apply_records its bounds, its promise at n = linesIn is register and answers, and applied-is
+-- turns n - done into the count of the other answers.
 use mathlib.Core.Path.{_∙_, sym, ap}
 use lib.ListN.{length}
 use denote.Ref.{now}

@@ -1,3 +1,6 @@
+-- The two cases of a take, for kind Guide: a refused file is refusedFile and leaves guide and answers (refused-is); a good one is
+-- appliedFile (good-is), whose guide and answers are apply_rows' promise at n = linesIn and whose counts applied-is gives. The register is
+-- only read.
 use mathlib.Core.Path.{_∙_, sym, ap}
 use lib.ListN.{length}
 use denote.Ref.{now}
