@@ -1,4 +1,5 @@
--- The turns of the loops over the slots: the count of entries, and their records one behind the other; and a file of three parts.
+-- The turns of the loops over the slots, which count the entries and lay their records one behind the other; one record in the part
+-- that is lent for it; the size of the file, and the file from its three parts.
 -- Assumes nothing.
 use mathlib.Core.Path.{_≡_, _∙_, refl, sym, ap}
 use mathlib.Core.Bool.{Bool, true, false, cond}

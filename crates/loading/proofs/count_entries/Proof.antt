@@ -1,3 +1,5 @@
+-- entries is the count of entries among the first i slots, no more than i, and n - i falls. counted-more adds the 0 or 1 of slot i, which
+-- the lent bytes are by place-part; at the end i is the number of slots.
 use Rattle.rules.specs.Loads.{isEntry, entryAt, entriesIn}
 use Rattle.rules.proofs.WalkLaws.{at-most-one}
 use Rattle.loading.proofs.WriteLaws.{Counted, counted-none, counted-more}

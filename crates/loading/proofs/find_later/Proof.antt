@@ -1,3 +1,5 @@
+-- No slot below i holds a later entry, and n - i falls. A hit is the walk's answer by passed-hit, the end by passed-all; place-test carries
+-- what is_later says of the lent bytes to slot i of the register.
 use Rattle.rules.specs.Loads.{laterAt, isLaterEntry}
 use borrow.Author.Needs.{needs}
 use Prim.Native.Nat.{_-_, _/_}

@@ -1,3 +1,5 @@
+-- With both lengths right the 200 spaces become put_header's line, which is headerFor, and header_in reads it to headerOf; with another
+-- length loadHeader is Wrong too.
 use Rattle.rules.specs.Loads.{headerFor, loadHeader}
 use Rattle.layout.specs.Tables.{header}
 use Rattle.layout.specs.declared.counter.Cycle.{Cycle}

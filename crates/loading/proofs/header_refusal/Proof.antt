@@ -1,3 +1,5 @@
+-- The cases of headerRefusal in its order: Wrong from header_for is 26, and so is a later entry; where find_later has none, size-of makes
+-- 400 + 512 * entries loadSize, and its comparison with the room is 0 or 25.
 use mathlib.Core.Path.{refl, sym, ap, _∙_}
 use borrow.Author.Tests.{le-leb, lt-leb}
 use denote.Ref.{now}

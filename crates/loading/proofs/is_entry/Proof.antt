@@ -1,3 +1,4 @@
+-- isEntry is isLive of the state byte: is_live's promise at the byte that state promises.
 use mathlib.Core.Path.{ap, _∙_}
 use Prim.Native.Nat.{ℕ}
 use Rattle.rules.specs.Slots.{isLive}

@@ -1,3 +1,4 @@
+-- isLaterEntry is a conjunction: a slot that is not live makes it false, and of a live one it is is_before's promise at the slot's day.
 use mathlib.Core.Path.{refl}
 use borrow.Author.Needs.{needs}
 use Rattle.loading.proofs.is_later.Statement.{statement}

@@ -1,3 +1,4 @@
+-- An unsound register is 1. A sound one has at most 4096 slots (few-slots), which is what header_refusal asks, and its answer is the rest.
 use mathlib.Core.Path.{refl, sym, _∙_}
 use denote.Ref.{now}
 use Rattle.rules.specs.Loads.{loadRefusal}

@@ -1,3 +1,5 @@
+-- With an entry, entry-room finds 512 bytes from `at`, write_line fills them, and entry-back sets that part into the output; without one
+-- the output is its bytes before `at` and those from there on, with nothing between (entry-none).
 use mathlib.Core.Path.{sym, ap, _∙_}
 use Prim.Native.Nat.{ℕ}
 use lib.ListN.{length}

@@ -1,3 +1,5 @@
+-- The output holds loadSize (file-room), so the three lent parts lie in it and each has its full length. Each callee promises its own part,
+-- and file-written joins header, lines and trailer to loadFile, with the bytes behind loadSize as they were.
 use Rattle.layout.specs.declared.counter.Cycle.{Cycle}
 use Rattle.loading.proofs.WriteLaws.{file-written, entries-few, file-room}
 use mathlib.Core.Path.{ap, _∙_}

@@ -1,3 +1,4 @@
+-- The record is as long as the line, so put writes all of it (put-all), and mark_for_load promises forLoad of what it finds there.
 use Rattle.loading.proofs.WriteLaws.{put-all}
 use mathlib.Core.Path.{ap, _∙_}
 use Prim.Native.Nat.{ℕ}

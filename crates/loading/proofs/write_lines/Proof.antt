@@ -1,3 +1,5 @@
+-- The records of the first i slots stand one behind the other up to `at`, and the old bytes from there on (Laid); n - i falls. laid-room
+-- finds room for the next, as no more entries lie below i + 1 than in all; laid-more is the turn, laid-all the end.
 use Rattle.rules.specs.Loads.{entryAt}
 use Rattle.rules.proofs.SlotLaws.{length-slot-at}
 use Rattle.loading.proofs.WriteLaws.{Laid, laid-none, laid-length, laid-room, laid-more, laid-all}

@@ -1,3 +1,5 @@
+-- Refusal 0 is what loaded tests. written-is draws from it a sound register, so at most 4096 entries and counts of 32 bits, and that
+-- loadSize fits: all that write_file asks. With another number nothing was written, and both counts are 0.
 use mathlib.Core.Path.{refl, sym, _∙_}
 use native.Mathlib.Omega.{arith}
 use lib.ListN.{length}
