@@ -1,3 +1,5 @@
+-- seen-bounded: refusal at most 10, state 3, slot 4095, looked 4096. So no product or sum leaves 64 bits, and with look's promise the sum
+-- is packed's own.
 use mathlib.Core.Path.{_≡_, refl, sym, subst}
 use Prim.Native.Nat.{ℕ}
 use native.Mathlib.Omega.{arith}

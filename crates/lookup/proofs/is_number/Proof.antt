@@ -1,3 +1,4 @@
+-- The length is compared as in isNumber, and all_in promises its other half, that every byte is a digit.
 use mathlib.Core.Path.{refl}
 use Rattle.rules.specs.Lookups.{isNumber}
 use borrow.Author.Needs.{needs}

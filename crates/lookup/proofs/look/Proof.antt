@@ -1,3 +1,5 @@
+-- The tests stand in seen's order, and each return is its arm by the callee's promise. A register of good length has at most 4096 slots
+-- (long-few), which seen_in asks.
 use mathlib.Core.Path.{sym, _∙_}
 use Rattle.rules.specs.Lookups.{seen}
 use Rattle.rules.proofs.LookupLaws.{long-few}

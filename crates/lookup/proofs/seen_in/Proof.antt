@@ -1,3 +1,5 @@
+-- find_number promises the walk: its place is findNumber, its length walked. find-some puts the place below the slots, which state_at asks,
+-- and walked-le the length at no more than they are: with 4096 slots both fit in 32 bits.
 use mathlib.Core.Path.{_≡_, refl, sym, ap, _∙_}
 use Prim.Native.Nat.{ℕ, _≤_, _<_}
 use native.Mathlib.Omega.{arith}

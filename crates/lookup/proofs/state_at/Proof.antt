@@ -1,3 +1,4 @@
+-- i is below the number of slots, so its 520 bytes lie in the register; place-part makes them slot i, and state promises that slot's state.
 use mathlib.Core.Path.{ap, _∙_}
 use Prim.Native.Nat.{ℕ}
 use mathlib.Core.List.{List}
