@@ -1,4 +1,5 @@
--- Turns of the loops that walk a list two and three numbers at a time: the pairs of letters, and the fields of a table.
+-- Turns of the loops that walk a list two and three numbers at a time: the pairs of letters, and the fields of a table. A field that
+-- is whole, and that one which keeps its rule has no fault.
 -- Assumes nothing.
 use mathlib.Core.Path.{_≡_, _∙_, refl, sym, ap}
 use mathlib.Core.Bool.{Bool, true, false, _&&_, _||_}

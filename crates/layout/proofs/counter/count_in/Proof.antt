@@ -1,3 +1,5 @@
+-- run promises how many spaces stand before, no more than there are bytes; rest-is makes the lent rest what countOf drops to, and
+-- whole_count's promise there is countOf.
 use borrow.Author.Needs.{needs}
 use Rattle.layout.specs.Counters.{countOf}
 use Rattle.text.proofs.Laws.{rest-is}

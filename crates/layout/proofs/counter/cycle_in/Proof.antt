@@ -1,3 +1,5 @@
+-- The returns are cycleOf's cases in its order: number_in spells none, the number is below 1, or above 999999; what is left is the cycle.
+-- lt-ltb and le-ltb turn the comparisons into its tests.
 use borrow.Author.Needs.{needs}
 use borrow.Author.Tests.{lt-ltb, le-ltb}
 use Rattle.layout.specs.Counters.{cycleOf}

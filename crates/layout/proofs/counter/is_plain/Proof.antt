@@ -1,3 +1,4 @@
+-- The promises of all_in and byte_of put plainDigits' own terms under the same and, or and not; byte_of an empty field is 0, as getD.
 use borrow.Author.Needs.{needs}
 use Rattle.layout.proofs.counter.is_plain.Tie as tie
 use Rattle.layout.proofs.counter.is_plain.Statement.{statement}

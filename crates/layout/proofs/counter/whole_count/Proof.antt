@@ -1,3 +1,5 @@
+-- wholeCount asks plainDigits, which is_plain promises, and then what 1 to 9 digits spell, which number_in promises; a no of either is
+-- NoCount.
 use borrow.Author.Needs.{needs}
 use Rattle.layout.specs.Counters.{wholeCount}
 use Rattle.layout.proofs.counter.whole_count.Tie as tie

@@ -1,3 +1,4 @@
+-- The arms are the conditions of allows in its order: each letter makes its own true, and any other byte makes all three false (ne-eqb).
 use borrow.Author.Tests.{ne-eqb}
 use Rattle.layout.specs.Fields.{allows}
 use Rattle.layout.proofs.field.allowed.Tie as tie

@@ -1,3 +1,4 @@
+-- Company ID is five bytes from 260 by the constants as by the table, and part_of promises them.
 use borrow.Author.Needs.{needs}
 use Rattle.layout.specs.Fields.{companyOf}
 use Rattle.layout.proofs.field.company.Tie as tie

@@ -1,3 +1,4 @@
+-- The first half of day_in's promise, at the Date field that part_of promises, is dateOf; its bound on the day is not needed here.
 use mathlib.Core.Path.{_∙_, ap}
 use borrow.Author.Needs.{needs}
 use Rattle.calendar.specs.Calendar.{dayOf}

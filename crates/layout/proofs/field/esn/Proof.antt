@@ -1,3 +1,4 @@
+-- ESN_AT and ESN_SIZE come to the entry that esnOf takes from the table, and part_of promises those bytes.
 use borrow.Author.Needs.{needs}
 use Rattle.layout.specs.Fields.{esnOf}
 use Rattle.layout.proofs.field.esn.Tie as tie

@@ -1,3 +1,4 @@
+-- withEsn puts at most the first five bytes of the ESN at its place: put's promise, with part_of's promise for those bytes.
 use borrow.Author.Needs.{needs}
 use Rattle.layout.specs.Fields.{withEsn}
 use Rattle.layout.proofs.field.fill_esn.Tie as tie

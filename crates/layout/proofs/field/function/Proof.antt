@@ -1,3 +1,4 @@
+-- Function is the first byte; byte_of reads it, and gives 0 for an empty record, as functionOf does.
 use borrow.Author.Needs.{needs}
 use Rattle.layout.specs.Fields.{functionOf}
 use Rattle.layout.proofs.field.function.Tie as tie

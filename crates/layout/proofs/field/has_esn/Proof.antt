@@ -1,3 +1,4 @@
+-- hasEsn denies blank of the ESN field: is_blank's promise at the part that part_of promises, denied by the code as well.
 use mathlib.Core.Path.{_∙_, ap}
 use mathlib.Core.Bool.{not}
 use borrow.Author.Needs.{needs}

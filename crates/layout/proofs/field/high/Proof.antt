@@ -1,3 +1,4 @@
+-- highOf is endIn of the High field, right behind Low: end_in's promise at the part that part_of promises.
 use mathlib.Core.Path.{_∙_, ap}
 use borrow.Author.Needs.{needs}
 use Rattle.layout.specs.Fields.{endIn, highOf}

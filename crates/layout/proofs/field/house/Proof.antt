@@ -1,3 +1,4 @@
+-- part_of promises the House Number field of the table, and house_in what those bytes spell.
 use mathlib.Core.Path.{_∙_, ap}
 use borrow.Author.Needs.{needs}
 use Rattle.layout.specs.Fields.{houseIn, houseOf}

@@ -1,3 +1,4 @@
+-- houseIn is spelled with 0 to 8 digits, which is number_in's promise: no digits and only spaces spell 0.
 use borrow.Author.Needs.{needs}
 use Rattle.layout.proofs.field.house_in.Statement.{statement}
 use Rattle.layout.proofs.field.house_in.Tie as tie

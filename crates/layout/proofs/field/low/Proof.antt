@@ -1,3 +1,4 @@
+-- lowOf is endIn of the Low field: end_in's promise at the ten bytes that part_of promises.
 use mathlib.Core.Path.{_∙_, ap}
 use borrow.Author.Needs.{needs}
 use Rattle.layout.specs.Fields.{endIn, lowOf}

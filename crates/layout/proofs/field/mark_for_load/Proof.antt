@@ -1,3 +1,4 @@
+-- The second put is promised over what the first left, so the two are forLoad's two, Function first and Source over it.
 use borrow.Author.Needs.{needs}
 use Rattle.layout.specs.Fields.{forLoad}
 use Rattle.layout.proofs.field.mark_for_load.Tie as tie

@@ -1,3 +1,4 @@
+-- Calling Number begins where NPA ends, so the span of the two is one part, and the constants come to its start and length, 1 and 10.
 use borrow.Author.Needs.{needs}
 use Rattle.layout.specs.Fields.{numberOf}
 use Rattle.layout.proofs.field.number.Tie as tie

@@ -1,3 +1,4 @@
+-- Parity is one byte, 122 from 0; byte_of promises it, or 0 where the row ends before it, and parityOf says the same.
 use borrow.Author.Needs.{needs}
 use Rattle.layout.specs.Fields.{parityOf}
 use Rattle.layout.proofs.field.parity.Tie as tie

@@ -1,3 +1,4 @@
+-- State follows Community, so the span of the two is one part of 34 bytes, the one that part_of promises.
 use borrow.Author.Needs.{needs}
 use Rattle.layout.specs.Fields.{placeOf}
 use Rattle.layout.proofs.field.place.Tie as tie

@@ -1,3 +1,4 @@
+-- The row's ESN stands behind its parity; ROW_ESN_AT and ROW_ESN_SIZE come to the table's entry, and part_of promises those bytes.
 use borrow.Author.Needs.{needs}
 use Rattle.layout.specs.Fields.{rowEsnOf}
 use Rattle.layout.proofs.field.row_esn.Tie as tie

@@ -1,3 +1,4 @@
+-- A row's Function is its last byte but one, 198 from 0; byte_of promises it, or 0 in a shorter row, as rowFunctionOf says.
 use borrow.Author.Needs.{needs}
 use Rattle.layout.specs.Fields.{rowFunctionOf}
 use Rattle.layout.proofs.field.row_function.Tie as tie

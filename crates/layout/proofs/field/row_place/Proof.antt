@@ -1,3 +1,4 @@
+-- In a row Community and State stand behind Low and High; State follows Community, so the two are one part, the one part_of promises.
 use borrow.Author.Needs.{needs}
 use Rattle.layout.specs.Fields.{rowPlaceOf}
 use Rattle.layout.proofs.field.row_place.Tie as tie

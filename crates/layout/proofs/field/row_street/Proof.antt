@@ -1,3 +1,4 @@
+-- In a row the four street fields begin at its first byte; their span, 68 bytes from 0, is the part that part_of promises.
 use borrow.Author.Needs.{needs}
 use Rattle.layout.specs.Fields.{rowStreetOf}
 use Rattle.layout.proofs.field.row_street.Tie as tie

@@ -1,3 +1,5 @@
+-- Prefix, Street Name, Suffix and Post follow one another, so their span is one part of 68 bytes; the constants are computed from the same
+-- entries of the table as streetOf.
 use borrow.Author.Needs.{needs}
 use Rattle.layout.specs.Fields.{streetOf}
 use Rattle.layout.proofs.field.street.Tie as tie

@@ -1,3 +1,4 @@
+-- next promises nextOf: where there is none isNextOf is false, and else the numbers of the two cycles are compared on both sides.
 use borrow.Author.Needs.{needs}
 use Rattle.layout.proofs.counter.Cycle.is_next.Tie as tie
 use Rattle.layout.proofs.counter.Cycle.is_next.Statement.{statement}

@@ -1,3 +1,4 @@
+-- Below 999999, at it and above it are the three cases of nextOf, in its order; in the first, one more still fits in 32 bits.
 use borrow.Author.Needs.{needs}
 use borrow.Author.Tests.{eq-eqb, ne-eqb, lt-ltb, le-ltb}
 use Rattle.layout.proofs.counter.Cycle.next.Tie as tie
