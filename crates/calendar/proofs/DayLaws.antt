@@ -1,5 +1,5 @@
--- The formula and the table of month lengths agree in every month of the years 00 to 99; a month has at most 31 days; the
--- four bytes of a day read back as that day. Assumes nothing.
+-- The formula and the table of month lengths agree in every month of the years 00 to 99; a month has at most 31 days; days passed,
+-- counted by a sum or by a difference; the four bytes of a day read back as that day. Assumes nothing.
 use mathlib.Core.Path.{_≡_, refl, _∙_, sym, ap}
 use mathlib.Core.List.{List, [], _∷_}
 use mathlib.Core.Bool.{Bool, true, false, _&&_}

@@ -1,3 +1,5 @@
+-- The three returns are the formula with its three corrections, 0, 1 and 2, which m <= 2 and is_leap decide. The bounds on m, d and y let
+-- no difference fall below 0 and keep the day at 36524 or less; in a leap year that takes the fact that y is a multiple of 4, so not 99.
 use mathlib.Core.Path.{_∙_, sym}
 use Prim.Native.Nat.{_%_}
 use native.Mathlib.Omega.{arith}
