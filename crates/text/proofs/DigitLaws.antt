@@ -1,4 +1,5 @@
--- Numbers in decimal, read back: what digits spell, how many a number has, and that the first of them is no zero.
+-- Numbers in decimal, read back: what digits spell, how many a number has, that the first of them is no zero, and that what is written
+-- fills its field.
 -- Assumes nothing.
 use mathlib.Core.Path.{_≡_, refl, sym, ap, _∙_}
 use mathlib.Core.Bool.{Bool, true, false, cond}

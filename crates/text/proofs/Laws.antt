@@ -1,5 +1,6 @@
--- The two laws of every loop that walks a list from the front: its invariant is that a definition f says of what is left at i what
--- is asked, `f (drop i s) ≡ v`, as `f s`. Where a byte is left, f says it of that byte and the rest; where none is left, f says it of [].
+-- turn and ended, the two laws of every loop that walks a list from the front: its invariant is that a definition f says of what is left
+-- at i what is asked, `f (drop i s) ≡ v`, as `f s`. Where a byte is left, f says it of that byte and the rest; where none is left, of [].
+-- With them the turns of the loops of this crate, those from the back too, the laws of and and or, and what a lent part is.
 -- Assumes nothing.
 use mathlib.Core.Path.{_≡_, _∙_, refl, sym, ap}
 use mathlib.Core.Bool.{Bool, true, false, _&&_, _||_, cond, and-assoc}

@@ -1,4 +1,5 @@
--- A class along the parts of a list, and what its first byte says of a run of spaces.
+-- A class along the parts of a list; four bytes compared as one word; what the first byte says of a run of spaces; and what two bytes
+-- spell.
 -- Assumes nothing.
 use mathlib.Core.Path.{_≡_, refl, sym, _∙_, ap}
 use mathlib.Core.Bool.{Bool, true, false, _&&_, and-assoc}

@@ -1,3 +1,5 @@
+-- As in all_in, with the comparison of a byte with b for the test: `all` and the rest make allEqual of the whole, and length - i falls
+-- (all-more, all-done).
 use mathlib.Core.Path.{_≡_, refl}
 use mathlib.Core.Bool.{_&&_}
 use Prim.Native.Nat.{_-_, _≤_}

@@ -1,3 +1,5 @@
+-- `all` is the answer for the bytes before i: with allIn of the rest it makes that of the whole, and length - i falls. in_class promises
+-- the test by which all-more takes byte i in; of nothing left allIn is true (all-done).
 use mathlib.Core.Path.{_≡_, refl}
 use mathlib.Core.Bool.{_&&_}
 use Prim.Native.Nat.{_≤_, _-_}

@@ -1,3 +1,5 @@
+-- Every byte below i is in the set, so the rest decides, and length - i falls. By turn a member hands on to the rest and another byte makes
+-- it false; of nothing left allOf is true (ended).
 use mathlib.Core.Path.{_≡_, _∙_, sym}
 use Prim.Native.Nat.{_≤_, _-_}
 use lib.ListN.{length, drop}

@@ -1,3 +1,5 @@
+-- Where both are there, the two is_there are the bounds that are_words_same asks, and its promise is what is left of eightSame; else the
+-- first half of eightSame is false.
 use mathlib.Core.Path.{_∙_, sym}
 use borrow.Author.Tests.{leb-true}
 use borrow.Author.Needs.{needs}

@@ -1,3 +1,5 @@
+-- From i to j the bytes agree, so what is left at j decides, and length - j falls. As the lengths are equal there are two bytes to compare:
+-- same-more goes past an equal pair, same-not ends at another, and both lists end together (same-all).
 use mathlib.Core.Path.{_≡_, refl}
 use Prim.Native.Nat.{_≤_, _-_}
 use lib.ListN.{length, drop}

@@ -1,3 +1,4 @@
+-- wide bounds each byte by 255, so none reaches into its neighbour's place in the word, and four-spaces makes one comparison of the four.
 use mathlib.Core.Path.{refl}
 use Rattle.text.proofs.PartLaws.{four-spaces}
 use borrow.Author.Needs.{needs}

@@ -1,3 +1,4 @@
+-- i + 8 lies within both, so the two lent slices are eight bytes long; part-is makes them the parts of is_word_same's promise.
 use borrow.Author.Needs.{needs}
 use Rattle.text.proofs.Laws.{part-is}
 use Rattle.text.proofs.are_words_same.Statement.{statement}

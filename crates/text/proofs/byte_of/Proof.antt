@@ -1,3 +1,4 @@
+-- Below the length getD reads the same byte; from there on it gives its default, 0 (List·getD-eq-default).
 use mathlib.Core.Path.{sym}
 use lib.ListN.{List·getD-eq-default}
 use denote.Ref.{now}

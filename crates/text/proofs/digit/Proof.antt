@@ -1,3 +1,4 @@
+-- The two tests are the halves of inClass Digit. With both the difference is digitOf, at most 9; without one of them digitOf is 0.
 use native.Mathlib.Omega.{arith}
 use borrow.Author.Tests.{le-leb, lt-leb}
 use borrow.Author.Needs.{needs}

@@ -1,3 +1,5 @@
+-- The first i bytes are b and the rest is as it was lent; length - i falls. fill-length keeps the length, so the store lies inside;
+-- fill-more is the turn, and at the end there is no rest (fill-all).
 use mathlib.Core.Path.{_≡_}
 use mathlib.Core.List.{_++_}
 use Prim.Native.Nat.{_≤_, _-_}

@@ -1,4 +1,4 @@
--- src/lib.rt:20:31
+-- Each arm knows its class, and inClass of that class is the same comparisons, with the letters' codes for ends.
 use borrow.Author.Needs.{needs}
 use Rattle.text.proofs.in_class.Tie as tie
 use Rattle.text.proofs.in_class.Statement.{statement}

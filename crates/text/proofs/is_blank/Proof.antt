@@ -1,3 +1,5 @@
+-- Below 4 and from 16 bytes on it is all_in's promise. Between, the first and the last 4 or 8 meet or overlap, as twice that is no less
+-- than the length: all-meet makes the two tests one of all bytes.
 use Prim.Native.Nat.{_-_}
 use native.Mathlib.Omega.{arith}
 use lib.ListN.{length}

@@ -1,3 +1,4 @@
+-- run promises the run of spaces, and it is as long as the field exactly if every byte is a space (run-whole).
 use denote.Ref.{now}
 use Rattle.text.specs.declared.Class.the-variants.{Space}
 use Rattle.text.proofs.Laws.{run-whole}

@@ -1,3 +1,5 @@
+-- Up to the end, left-there makes n <= length - i the definition's i + n <= length, with no sum that could overflow; past the end i alone
+-- is more than the length.
 use mathlib.Core.Path.{sym}
 use Prim.Native.Nat.{_+_}
 use native.Mathlib.Omega.{arith}

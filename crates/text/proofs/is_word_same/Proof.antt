@@ -1,3 +1,4 @@
+-- Both have eight bytes, and word-same makes the eight comparisons, in the nesting they have here, sameBytes of the two.
 use borrow.Author.Needs.{needs}
 use Rattle.text.proofs.Laws.{word-same}
 use Rattle.text.proofs.is_word_same.Statement.{statement}

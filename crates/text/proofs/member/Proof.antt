@@ -1,3 +1,5 @@
+-- No byte below i is b, so the rest of the set decides, and length - i falls. By turn an equal byte makes it true and another one hands on
+-- to the rest; of nothing left memberOf is false (ended).
 use mathlib.Core.Path.{_≡_}
 use Prim.Native.Nat.{_≤_, _-_}
 use lib.ListN.{length, drop}

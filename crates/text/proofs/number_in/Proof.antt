@@ -1,3 +1,5 @@
+-- Each NoNumber is one of spelled's tests that fails, in its order: 9, low, high, the bytes behind the run (rest-is). Where all hold the
+-- run has at most 9 digits, so value may be asked, and it promises the number that they spell.
 use mathlib.Core.Path.{_∙_, sym, ap}
 use native.Mathlib.Nat.{sub-zero}
 use borrow.Author.Needs.{needs}

@@ -1,3 +1,5 @@
+-- n bytes are there: the slice is the part (part-is). Fewer are there: the part is all that is left (part-short). i lies past the end: the
+-- part is empty (part-none).
 use mathlib.Core.Path.{_∙_, sym}
 use native.Mathlib.Omega.{arith}
 use denote.Ref.{now}

@@ -1,3 +1,5 @@
+-- Where b fits, copy overwrites the lent part from end to end, and put-whole makes what comes back putAt. Where it does not, or i lies past
+-- the end, putAt leaves s, as the code does (put-not).
 use native.Mathlib.Omega.{arith}
 use denote.Ref.{now}
 use borrow.Author.Needs.{needs}

@@ -1,3 +1,5 @@
+-- fill leaves nothing but spaces, and put_digits fills the w bytes from a; among-spaces makes the spaces before, the digits and the spaces
+-- behind them amongSpaces.
 use lib.ListN.{length}
 use denote.Ref.{now}
 use borrow.Author.Needs.{needs}

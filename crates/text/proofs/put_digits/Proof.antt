@@ -1,3 +1,5 @@
+-- From i on stand the last digits of n, and m spells those still to come: digits i m before them is the whole, and i falls. digits-more
+-- writes one from the back; at 0 none is to come (digits-done).
 use mathlib.Core.Path.{_≡_}
 use mathlib.Core.List.{_++_}
 use Prim.Native.Nat.{_≤_}

@@ -1,3 +1,5 @@
+-- width_of promises the width that leftDigits compares with the length: where it fits, put_among_spaces from 0 is its first arm; else s
+-- stays, its second.
 use borrow.Author.Needs.{needs}
 use borrow.Author.Tests.{le-leb, lt-leb}
 use Rattle.text.specs.Text.{leftDigits}

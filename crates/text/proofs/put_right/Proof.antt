@@ -1,3 +1,4 @@
+-- As in put_left, with length - w for the start: where the width fits nothing falls below 0, and the digits end where s does.
 use borrow.Author.Needs.{needs}
 use borrow.Author.Tests.{le-leb, lt-leb}
 use Rattle.text.specs.Text.{rightDigits}

@@ -1,3 +1,5 @@
+-- The first i bytes are of the class, so i and the run of the rest make the whole run; length - i falls. run-more goes past a byte of the
+-- class, run-stop ends at another one, run-all at the end.
 use mathlib.Core.Path.{_≡_, _∙_, sym}
 use Prim.Native.Nat.{_+_, _≤_, _-_}
 use lib.ListN.{length, drop}

@@ -1,3 +1,5 @@
+-- runsOf's three tests in its order, with run's promise for the run: below low and above high it is false, and else is_rest_blank's promise
+-- on the bytes behind the run (rest-is) is the third.
 use borrow.Author.Needs.{needs}
 use borrow.Author.Tests.{le-leb, lt-leb}
 use Rattle.text.specs.Text.{runsOf}

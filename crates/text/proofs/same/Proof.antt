@@ -1,3 +1,5 @@
+-- Other lengths decide at once (same-lengths). Then the first i bytes agree and what is left decides; length - i falls by 8. same-many goes
+-- past equal words, same-part-not ends at others, and are_rest_same promises the comparison of the last few bytes.
 use mathlib.Core.Path.{_≡_, _∙_, refl, sym}
 use Prim.Native.Nat.{_≤_, _-_}
 use lib.ListN.{length, drop}

@@ -1,3 +1,5 @@
+-- in_class tells the three cases of spelled 2 2 apart: two digits are the number of the two (two-spelled), and a first or second byte that
+-- is none makes NoNumber (two-first, two-second).
 use mathlib.Core.Path.{sym, _∙_}
 use Rattle.text.proofs.PartLaws.{two-spelled, two-first, two-second}
 use borrow.Author.Needs.{needs}

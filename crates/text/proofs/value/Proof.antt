@@ -1,3 +1,5 @@
+-- n is spelled by the first i digits and below 10 ^ i; carried on over the rest it gives the whole value, and length - i falls. value-more
+-- and below-ten are the turn; as i is at most 8 in a turn, small-power keeps n * 10 + 9 in 32 bits.
 use mathlib.Core.Path.{refl, _≡_}
 use Prim.Native.Nat.{_^_, _≤_, _<_, _-_}
 use native.Mathlib.Nat.{lt-of-lt-of-le}

@@ -1,3 +1,5 @@
+-- w plus the width of what is left, m, stays 1 plus that of n, and m falls. m < 10 ^ (11 - w) ends it at ten digits (width-room); below 10
+-- one digit is left, so w is the width (width-end).
 use mathlib.Core.Path.{_≡_, refl}
 use Prim.Native.Nat.{_+_, _-_, _^_, _≤_, _<_}
 use native.Mathlib.Omega.{arith}
