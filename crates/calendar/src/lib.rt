@@ -25,6 +25,9 @@ const MONTHS: [u32; 12] = [31, 28, 31, 30, 31, 30, 31, 31, 30, 31, 30, 31];
 // 123199.
 const LAST: u32 = 36524;
 
+// MMDDYY.
+const DATE_SIZE: usize = 6;
+
 fn is_leap(y: u32) -> bool
     ensures { λ r. ⌜ r ≡ leap y ⌝ }
 {
@@ -84,7 +87,7 @@ fn day_from(m: u32, d: u32, y: u32) -> Date
 pub fn day_in(f: &[u8]) -> Date
     ensures { λ r. ⌜ (r ≡ dayOf (now (f .entry))) × (noLater r ≡ true) ⌝ }
 {
-    if f.len() != 6 {
+    if f.len() != DATE_SIZE {
         return Date::NoDate;
     }
     let Spelled::Number(m) = text::two_digits(f[0], f[1]) else {

@@ -89,7 +89,7 @@ impl Cycle {
     }
 }
 
-// One digit, or several that do not begin with 0.
+// Digits only, and no leading zero where there are several. No digit at all passes here, and spells no number.
 fn is_plain(d: &[u8]) -> bool
     ensures { λ r. ⌜ r ≡ plainDigits (now (d .entry)) ⌝ }
 {

@@ -1,4 +1,5 @@
-// What is read from a record or a row, and what is written into one. A line that is too short gives what of the field there is.
+// What is read from a record or a row, and what is written into one. A line that is too short gives what of the field
+// there is, and 0 for a field of one byte.
 ghost use mathlib.Core.Path.{_≡_};
 ghost use Rattle.layout.specs.Fields.{functionOf, numberOf, houseIn, houseOf, streetOf, placeOf, esnOf, hasEsn, sameEsn, dateOf, companyOf};
 ghost use Rattle.layout.specs.Fields.{rowStreetOf, rowPlaceOf, endIn, lowOf, highOf, parityOf, allows, rowEsnOf, rowFunctionOf};

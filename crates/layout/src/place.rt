@@ -26,8 +26,6 @@ pub const HOUSE_SUFFIX_SIZE: usize = RECORD[3 * table::HOUSE_SUFFIX + 1];
 
 pub const PREFIX_AT: usize = RECORD[3 * table::PREFIX] - 1;
 
-pub const PREFIX_SIZE: usize = RECORD[3 * table::PREFIX + 1];
-
 pub const STREET_NAME_AT: usize = RECORD[3 * table::STREET_NAME] - 1;
 
 pub const STREET_NAME_SIZE: usize = RECORD[3 * table::STREET_NAME + 1];
@@ -154,8 +152,6 @@ pub const PLACE_SIZE: usize = STATE_AT + STATE_SIZE - COMMUNITY_AT;
 // The guide row.
 pub const ROW_PREFIX_AT: usize = ROW[3 * table::ROW_PREFIX] - 1;
 
-pub const ROW_PREFIX_SIZE: usize = ROW[3 * table::ROW_PREFIX + 1];
-
 pub const ROW_STREET_AT: usize = ROW[3 * table::ROW_STREET] - 1;
 
 pub const ROW_STREET_SIZE: usize = ROW[3 * table::ROW_STREET + 1];
@@ -229,3 +225,6 @@ pub const RECORD_SIZE: usize = RECORD_STAR_AT + 1;
 pub const ROW_SIZE: usize = ROW_STAR_AT + 1;
 
 pub const FRAME_SIZE: usize = FRAME_STAR_AT + 1;
+
+// Header and trailer together.
+pub const FRAMES_SIZE: usize = 2 * FRAME_SIZE;

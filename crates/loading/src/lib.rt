@@ -20,9 +20,6 @@ use rules::Loaded;
 use rules::Sought;
 use rules::refusing;
 
-// Header and trailer.
-const FRAMES: usize = 2 * place::FRAME_SIZE;
-
 // An entry whose day is after the load file's date.
 fn is_later(slot: &[u8], day: Day) -> bool
     ensures { λ r. ⌜ r ≡ isLaterEntry day (now (slot .entry)) ⌝ }
@@ -109,7 +106,7 @@ fn header_refusal(register: &[u8], date: &[u8], company: &[u8], cycle: u32, room
     let sought = find_later(register, h.day);
     let found = sought.found;
     let Found::At(_) = found else {
-        if FRAMES + count_entries(register) * place::RECORD_SIZE <= room {
+        if place::FRAMES_SIZE + count_entries(register) * place::RECORD_SIZE <= room {
             return refusing::NONE;
         }
         return refusing::OUTPUT_SHORT;
@@ -205,7 +202,7 @@ pub fn write_load(
         write_file(register, date, company, cycle, entries, &mut out[..]);
         return Loaded {
             refusal: refusing::NONE,
-            bytes: (FRAMES + entries * place::RECORD_SIZE) as u32,
+            bytes: (place::FRAMES_SIZE + entries * place::RECORD_SIZE) as u32,
             entries: entries as u32,
         };
     }

@@ -74,6 +74,12 @@ pub fn look(register: &[u8], number: &[u8]) -> Seen
     unseen(refusing::REGISTER)
 }
 
+const BIT_16: u64 = 65536;
+
+const BIT_32: u64 = 4294967296;
+
+const BIT_36: u64 = 68719476736;
+
 // The same, in one number: slots looked at in bits 0 to 15, the slot in 16 to 31, the state in 32 to 35, the refusal in 36 to 39.
 #[no_mangle]
 pub extern "C" fn hakkiyolu_lookup(register: &[u8], number: &[u8]) -> u64
@@ -84,5 +90,5 @@ pub extern "C" fn hakkiyolu_lookup(register: &[u8], number: &[u8]) -> u64
     let state = s.state as u64;
     let slot = s.slot as u64;
     let looked = s.looked as u64;
-    looked + (slot * 65536 + (state * 4294967296 + refusal * 68719476736))
+    looked + (slot * BIT_16 + (state * BIT_32 + refusal * BIT_36))
 }

@@ -1,6 +1,6 @@
 -- 01, "Register slot" and "Guide slot": the stores, their slots, and when a slot is sound.
 -- Assumes nothing.
-use Prim.Native.Nat.{ℕ, _+_, _*_, _/_, _%_}
+use Prim.Native.Nat.{ℕ, _*_, _/_, _%_}
 use mathlib.Core.List.{List, [], _∷_, _++_}
 use mathlib.Core.Bool.{Bool, false, _&&_, _||_, not, cond}
 use lib.Dec.{leb, eqb}

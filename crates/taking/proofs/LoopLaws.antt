@@ -2,7 +2,7 @@
 -- its lines, and what is returned at the end.
 -- Assumes nothing.
 use mathlib.Core.Path.{_≡_, _∙_, refl, sym, ap}
-use mathlib.Core.Bool.{Bool, true, false, _&&_, cond}
+use mathlib.Core.Bool.{true, false, _&&_, cond}
 use mathlib.Core.List.{List, [], _∷_, _++_, append-assoc}
 use Prim.Native.Nat.{ℕ, suc, _+_, _-_, _%_, _≤_, _<_}
 use native.Mathlib.Numerals.{add-one}
@@ -14,11 +14,9 @@ use borrow.Author.Tests.{eq-eqb, ne-eqb, leb-true}
 use Rattle.layout.specs.declared.frame.Header.{Header}
 use Rattle.rules.specs.declared.Kind.{Kind}
 use Rattle.rules.specs.declared.Checked.the-variants.{Good, Refused}
-use Rattle.rules.specs.Takes.{Stores, lineAt, lineFault, linesIn, badLine, linesChecked, lineApplied, after, answerAt, answersTo, zerosIn, othersIn, lineSize, goodFile, refuse, frameChecked, checked, appliedFile}
+use Rattle.rules.specs.Takes.{Stores, lineAt, lineFault, linesIn, badLine, linesChecked, lineApplied, after, answerAt, answersTo, zerosIn, othersIn, lineSize, goodFile, appliedFile}
 use Rattle.rules.proofs.WalkLaws.{Passed, find-hit, at-most-one}
 use Rattle.text.proofs.Laws.{and-right}
-use Rattle.layout.specs.declared.counter.Cycle.{Cycle}
-use Rattle.rules.specs.Slots.{registerSound, guideSound}
 use Rattle.rules.proofs.TakeLaws.{answers-length, zeros-more, zeros-others}
 
 -- ---- the checks: v is the fault of line i

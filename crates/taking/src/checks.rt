@@ -14,9 +14,6 @@ use rules::Kind;
 use rules::Refusal;
 use rules::refusing;
 
-// Header and trailer of a file.
-const FRAMES: usize = 2 * place::FRAME_SIZE;
-
 // A file has at most so many lines.
 const MOST: usize = 9999;
 
@@ -24,16 +21,16 @@ const MOST: usize = 9999;
 pub fn lines_in(kind: Kind, file: &[u8]) -> usize
     ensures { λ r. ⌜ r ≡ linesIn kind (now (file .entry)) ⌝ }
 {
-    if file.len() < FRAMES {
+    if file.len() < place::FRAMES_SIZE {
         return 0;
     }
     match kind {
-        Kind::Data => (file.len() - FRAMES) / place::RECORD_SIZE,
-        Kind::Guide => (file.len() - FRAMES) / place::ROW_SIZE,
+        Kind::Data => (file.len() - place::FRAMES_SIZE) / place::RECORD_SIZE,
+        Kind::Guide => (file.len() - place::FRAMES_SIZE) / place::ROW_SIZE,
     }
 }
 
-// Line i of a file, as a part of it.
+// Line i, as a part of the file; behind the last line, what bytes there are.
 pub fn line_at(kind: Kind, file: &[u8], i: usize) -> &[u8]
     requires { ⌜ i ≤ 9999 ⌝ }
     ensures { λ r. ⌜ now r ≡ lineAt kind (now (file .entry)) i ⌝ }
@@ -66,13 +63,13 @@ fn refused(number: u32) -> Checked
 fn is_good_file(kind: Kind, file: &[u8]) -> bool
     ensures { λ r. ⌜ r ≡ goodFile kind (now (file .entry)) ⌝ }
 {
-    if file.len() < FRAMES {
+    if file.len() < place::FRAMES_SIZE {
         return false;
     }
     let few = lines_in(kind, file) <= MOST;
     match kind {
-        Kind::Data => ((file.len() - FRAMES) % place::RECORD_SIZE == 0) & few,
-        Kind::Guide => ((file.len() - FRAMES) % place::ROW_SIZE == 0) & few,
+        Kind::Data => ((file.len() - place::FRAMES_SIZE) % place::RECORD_SIZE == 0) & few,
+        Kind::Guide => ((file.len() - place::FRAMES_SIZE) % place::ROW_SIZE == 0) & few,
     }
 }
 

@@ -80,14 +80,6 @@ pub same-refl : (s : List ℕ) → sameBytes s s ≡ true
 same-refl [] = refl
 same-refl (a ∷ s) = rw (eq-eqb a a refl) (same-refl s)
 
--- parts that differ in one byte are not the same
-pub same-apart : (s t : List ℕ) (i : ℕ) {a b : ℕ} → a ≡ getD s i 0 → b ≡ getD t i 0 → (a ≡ b → ⊥) → false ≡ sameBytes s t
-same-apart s t i {a} {b} p q n = go (sameBytes s t) refl
-  where
-    go : (v : Bool) → sameBytes s t ≡ v → false ≡ v
-    go true e = absurd (n (p ∙ ap (λ x. getD x i 0) (same-true s t e) ∙ sym q))
-    go false e = refl
-
 -- parts of different lengths are not the same, nor are parts that differ in a part
 pub same-lengths : (s t : List ℕ) → (length t ≡ length s → ⊥) → false ≡ sameBytes s t
 same-lengths s t n = go (sameBytes s t) refl
@@ -163,12 +155,6 @@ module _ (s t : List ℕ) (i : ℕ) {v : Bool} (inv : sameBytes (drop i s) (drop
 
   pub same-not : i < length s → i < length t → (getD s i 0 ≡ getD t i 0 → ⊥) → false ≡ v
   same-not h k e = rw (ne-eqb _ _ e) at (both-at h k)
-
-  pub same-left : i < length s → length t ≤ i → false ≡ v
-  same-left h k = ended (λ x. sameBytes (getD s i 0 ∷ drop (i + 1) s) x) t i k (turn (λ x. sameBytes x (drop i t)) s i h inv)
-
-  pub same-right : length s ≤ i → i < length t → false ≡ v
-  same-right h k = turn (λ x. sameBytes [] x) t i k (ended (λ x. sameBytes x (drop i t)) s i h inv)
 
   pub same-all : length s ≤ i → length t ≤ i → true ≡ v
   same-all h k = ended (λ x. sameBytes [] x) t i k (ended (λ x. sameBytes x (drop i t)) s i h inv)

@@ -161,7 +161,7 @@ pub enum Spelled {
 // No field has more digits, and so many fit 32 bits.
 const MOST_DIGITS: usize = 9;
 
-// The number that from low to high digits spell, with only spaces behind them.
+// The number that from low to high digits spell, with only spaces behind them; none where more than nine are asked for.
 pub fn number_in(f: &[u8], low: usize, high: usize) -> Spelled
     ensures { λ r. ⌜ r ≡ spelled low high (now (f .entry)) ⌝ }
 {

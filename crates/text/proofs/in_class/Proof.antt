@@ -6,39 +6,30 @@ use Rattle.text.proofs.in_class.Statement.{statement}
 enum-told : tie.Need-enum-told
 enum-told c = search needs
 
--- src/lib.rt:21:25
 enum-told-2 : tie.Need-enum-told-2
 enum-told-2 c = search needs
 
--- src/lib.rt:22:27
 enum-told-3 : tie.Need-enum-told-3
 enum-told-3 c = search needs
 
--- src/lib.rt:23:29
 enum-told-4 : tie.Need-enum-told-4
 enum-told-4 c = search needs
 
--- src/lib.rt:24:36
 enum-told-5 : tie.Need-enum-told-5
 enum-told-5 c = search needs
 
--- src/lib.rt:16:1
 returns : tie.Need-returns
 returns c = rw (c .enum-told .given .1)
 
--- src/lib.rt:16:1
 returns-2 : tie.Need-returns-2
 returns-2 c = rw (c .enum-told2 .given .1)
 
--- src/lib.rt:16:1
 returns-3 : tie.Need-returns-3
 returns-3 c = rw (c .enum-told3 .given .1)
 
--- src/lib.rt:16:1
 returns-4 : tie.Need-returns-4
 returns-4 c = rw (c .enum-told4 .given .1)
 
--- src/lib.rt:16:1
 returns-5 : tie.Need-returns-5
 returns-5 c = rw (c .enum-told5 .given .1)
 
