@@ -35,30 +35,25 @@ fn round(pass: &mut Pass) -> f64 {
     total.as_nanos() as f64 / f64::from(passes)
 }
 
-fn median(mut times: Vec<f64>) -> f64 {
-    times.sort_by(f64::total_cmp);
-    times[times.len() / 2]
-}
-
-/// Prints a row of the table. Ratios are taken round by round, so that a slow
-/// spell of the computer does not count for one side only.
+/// Prints a row of the table: the times of the round whose ratio of library to
+/// model is the median one, so that times and ratio agree, and the least and the
+/// greatest ratio of all rounds. A slow spell of the computer counts for both sides.
 fn report(name: &str, mut library: Pass, mut model: Pass, mut floor: Pass) {
-    let rounds: Vec<[f64; 3]> = (0..ROUNDS)
+    let mut rounds: Vec<[f64; 3]> = (0..ROUNDS)
         .map(|_| [round(&mut library), round(&mut model), round(&mut floor)])
         .collect();
-    let time = |of: usize| median(rounds.iter().map(|round| round[of] / 1000.0).collect());
-    let ratio = |of: usize, to: usize| {
-        let ratios = rounds.iter().map(|round| round[of] / round[to]);
-        median(ratios.collect())
-    };
+    let ratio = |round: &[f64; 3]| round[0] / round[1];
+    rounds.sort_by(|a, b| ratio(a).total_cmp(&ratio(b)));
+    let middle = rounds[ROUNDS / 2];
     println!(
-        "| {name} | {:.2} | {:.2} | {:.2} | {:.2} | {:.2} | {:.2} |",
-        time(0),
-        time(1),
-        time(2),
-        ratio(0, 1),
-        ratio(0, 2),
-        ratio(1, 2)
+        "| {name} | {:.2} | {:.2} | {:.2} | {:.2} | {:.2} to {:.2} | {:.2} |",
+        middle[0] / 1000.0,
+        middle[1] / 1000.0,
+        middle[2] / 1000.0,
+        ratio(&middle),
+        ratio(&rounds[0]),
+        ratio(&rounds[ROUNDS - 1]),
+        middle[0] / middle[2]
     );
 }
 
@@ -218,7 +213,7 @@ impl Bench {
 
 fn main() {
     println!(
-        "| case | library µs | model µs | floor µs | library/model | library/floor | model/floor |"
+        "| Case | Library µs | Model µs | Floor µs | Library/model | Over the rounds | Library/floor |"
     );
     println!("|---|---|---|---|---|---|---|");
     let full = Bench::new(MOST_SLOTS);
