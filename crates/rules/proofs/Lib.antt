@@ -23,6 +23,3 @@ pub mod LoadLaws
 pub mod FileLaws
 pub mod TripLaws
 pub mod RoundTrip
-pub mod Witness
-pub mod Instances
-pub mod TripWitness

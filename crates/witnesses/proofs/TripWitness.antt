@@ -6,14 +6,14 @@ use Prim.Native.Nat.{ℕ, _≤_}
 use native.Mathlib.Omega.{arith}
 use lib.ListN.{take, getD, replicate}
 use Rattle.layout.specs.Fields.{functionOf, esnOf, companyOf}
 use Rattle.rules.specs.Slots.{slotAt, stateOf, recordOf}
 use Rattle.rules.specs.Takes.{Stores}
 use Rattle.rules.specs.Loads.{entriesIn, loaded}
 use Rattle.rules.specs.Demands.{start, run}
 use Rattle.rules.specs.Circle.{Trip, Returned, RoundTrip, tripOf}
 use Rattle.rules.proofs.KeepSound.{run-sound}
 use Rattle.rules.proofs.RoundTrip.{round-trip, run-fit}
-use Rattle.rules.proofs.Witness.{day, company, files, seen as run-seen}
+use Rattle.witnesses.proofs.Witness.{day, company, files, seen as run-seen}
 
 -- the stores that the run leaves
 abbrev stores : Stores

@@ -6,18 +6,18 @@ use Prim.Native.Nat.{ℕ}
 use native.Mathlib.Omega.{arith}
 use lib.ListN.{getD, replicate}
 use Rattle.layout.specs.declared.frame.Header.{Header}
 use Rattle.rules.specs.Slots.{slots, slotAt, recordOf, isHeld}
 use Rattle.rules.specs.Records.{applied}
 use Rattle.rules.specs.Lookups.{seen}
 use Rattle.rules.specs.History.{Item, entry, row}
 use Rattle.rules.specs.Demands.{Office, start, run, liveAt, Lies, AllLie, IsLast, AllLast, InState, Exactly, Passed, OnlyPassed}
 use Rattle.rules.specs.Demands.{SoundStores, Shows, AllShown, TurnedAway, Guarded, Holder, HolderKept}
 use Rattle.rules.specs.Demands.{codeIs, newest, lastOf, lastStored, lastIs, heldBy, EveryOf}
 use Rattle.rules.proofs.Keep.{demand3}
 use Rattle.rules.proofs.KeepSound.{run-sound}
 use Rattle.rules.proofs.Shown.{run-shows}
 use Rattle.rules.proofs.Incident.{incident, holder}
-use Rattle.rules.proofs.Witness.{line, rowLine, files, seen as run-seen}
+use Rattle.witnesses.proofs.Witness.{line, rowLine, files, seen as run-seen}
 
 -- what the run leaves
 abbrev office : Office

@@ -1,0 +1,3 @@
+pub mod Witness
+pub mod Instances
+pub mod TripWitness
