@@ -10,12 +10,12 @@ use lib.ListN.{length, take, drop, getD}
 use lib.Seq.{getD-drop}
 use borrow.Author.Tests.{leb-true, le-leb, ne-eqb}
 use Rattle.text.specs.declared.Class.the-variants.{Printable, Space, Capital}
-use Rattle.text.specs.Text.{allIn, blank, runOf, memberOf, part, there}
+use Rattle.text.specs.Text.{allIn, blank, runOf, part, there}
 use Rattle.text.proofs.Laws.{and-left, and-right, or-right, left-at}
 use Rattle.layout.specs.Tables.{house, lowEnd, highEnd, parityLetter, leftText, named, capitals, direction, startOf, sizeOf, field}
 use Rattle.layout.specs.Rules.{spared, isDirection, keeps, isWhole, houseFault, endFault, highFault, parityFault, faultBy, faultIn}
 use Rattle.faults.specs.Look.{keptAt, faultFrom}
-use Rattle.layout.proofs.LineLaws.{two-at, part-whole, kept-passes, fault-passed, never}
+use Rattle.layout.proofs.LineLaws.{two-at, part-whole, kept-passes, fault-passed}
 
 -- ---- some bytes of a line
 
@@ -92,44 +92,9 @@ one-or-space true true good h = refl
 one-or-space true false good h = rw h
 one-or-space false space good h = rw h
 
--- a letter or none and then a space
-one-letter : (x : ℕ) → memberOf x (32 ∷ 78 ∷ 83 ∷ 69 ∷ 87 ∷ []) ≡ true → isDirection (x ∷ 32 ∷ []) ≡ true
-unfolding isDirection
-one-letter x h = go (eqb 32 x) (eqb 78 x) (eqb 83 x) (eqb 69 x) (eqb 87 x) h
-  where
-    go : (a b c d e : Bool) → (a || (b || (c || (d || (e || false))))) ≡ true
-        → (a && true || (b && true || (c && true || (d && true || (e && true || (b && false || (b && false || (c && false || (c && false || false))))))))) ≡ true
-    go true b c d e h = refl
-    go false true c d e h = refl
-    go false false true d e h = refl
-    go false false false true e h = refl
-    go false false false false true h = refl
-    go false false false false false h = h
-
--- two letters
-two-letters : (x y : ℕ) → (memberOf x (78 ∷ 83 ∷ []) && memberOf y (69 ∷ 87 ∷ [])) ≡ true → isDirection (x ∷ y ∷ []) ≡ true
-unfolding isDirection
-two-letters x y h =
-    or-right (eqb 32 x && eqb 32 y) _ (or-right (eqb 78 x && eqb 32 y) _ (or-right (eqb 83 x && eqb 32 y) _
-    (or-right (eqb 69 x && eqb 32 y) _ (or-right (eqb 87 x && eqb 32 y) _ (go (eqb 78 x) (eqb 83 x) (eqb 69 y) (eqb 87 y) h)))))
-  where
-    go : (n s e w : Bool) → ((n || (s || false)) && (e || (w || false))) ≡ true → (n && e || (n && w || (s && e || (s && w || false)))) ≡ true
-    go true s true w h = refl
-    go true s false true h = refl
-    go true s false false h = never h
-    go false true true w h = refl
-    go false true false true h = refl
-    go false true false false h = h
-    go false false e w h = h
-
-module _ (s : List ℕ) (i : ℕ) (h : there i 2 s ≡ true) where
-  pub letter-kept : getD s (i + 1) 0 ≡ 32 → memberOf (getD s i 0) (32 ∷ 78 ∷ 83 ∷ 69 ∷ 87 ∷ []) ≡ true → (lax : Bool) → keptAt i 2 direction lax s ≡ true
-  unfolding keptAt keeps
-  letter-kept e m lax = rw (h, two-part s i h, e) (one-letter (getD s i 0) m)
-
-  pub letters-kept : (memberOf (getD s i 0) (78 ∷ 83 ∷ []) && memberOf (getD s (i + 1) 0) (69 ∷ 87 ∷ [])) ≡ true → (lax : Bool) → keptAt i 2 direction lax s ≡ true
-  unfolding keptAt keeps
-  letters-kept m lax = rw (h, two-part s i h) (two-letters (getD s i 0) (getD s (i + 1) 0) m)
+pub direction-kept : (s : List ℕ) (i : ℕ) → there i 2 s ≡ true → isDirection (getD s i 0 ∷ getD s (i + 1) 0 ∷ []) ≡ true → (lax : Bool) → keptAt i 2 direction lax s ≡ true
+unfolding keptAt keeps
+direction-kept s i h d lax = rw (h, two-part s i h, d)
 
 -- ---- from one field of a table to the next
 

@@ -16,11 +16,22 @@ ghost use Rattle.faults.specs.Look.{keptAt, faultFrom};
 use layout::field;
 use layout::place;
 use layout::table::CODE;
+use layout::table::CODES;
+use layout::table::COMPANY_LEAST;
+use layout::table::COMPANY_MOST;
 use layout::table::ONE_DIGIT;
 use layout::table::ROW_CODE;
+use layout::table::ROW_CODES;
+use layout::table::ROW_ZONE_LEAST;
+use layout::table::ROW_ZONE_MOST;
+use layout::table::SOURCES;
 use layout::table::SPACE_OR_C;
 use layout::table::STAR;
+use layout::table::STARS;
+use layout::table::TYPES;
 use layout::table::ZERO_TO_FIVE;
+use layout::table::ZONE_LEAST;
+use layout::table::ZONE_MOST;
 use lines::check;
 use text::Class;
 use text::Spelled;
@@ -106,12 +117,12 @@ fn keeps_one(rule: usize, lax: bool, b: u8) -> bool
     ensures { λ r. ⌜ (r ≡ true → keeps rule lax (b ∷ []) ≡ true) ⌝ }
 {
     match rule {
-        CODE => text::member(b"CDIUM", b),
+        CODE => text::member(&CODES, b),
         ONE_DIGIT => (lax & (b == b' ')) | text::in_class(Class::Digit, b),
-        ZERO_TO_FIVE => (lax & (b == b' ')) | text::member(b"012345", b),
-        SPACE_OR_C => text::member(b" C", b),
-        STAR => text::member(b"*", b),
-        ROW_CODE => text::member(b"ID", b),
+        ZERO_TO_FIVE => (lax & (b == b' ')) | text::member(&TYPES, b),
+        SPACE_OR_C => text::member(&SOURCES, b),
+        STAR => text::member(&STARS, b),
+        ROW_CODE => text::member(&ROW_CODES, b),
         _ => false,
     }
 }
@@ -125,15 +136,11 @@ fn is_one_at(rule: usize, lax: bool, s: &[u8], i: usize) -> bool
     false
 }
 
-// A directional of one letter or none, or of two.
 fn is_direction_at(s: &[u8], i: usize) -> bool
     ensures { λ r. ⌜ (r ≡ true → (lax : Bool) → keptAt i 2 direction lax (now (s .entry)) ≡ true) ⌝ }
 {
     if text::is_there(s, i, 2) {
-        if s[i + 1] == b' ' {
-            return text::member(b" NSEW", s[i]);
-        }
-        return text::member(b"NS", s[i]) & text::member(b"EW", s[i + 1]);
+        return check::is_directional(s[i], s[i + 1]);
     }
     false
 }
@@ -266,7 +273,14 @@ fn has_good_customer(lax: bool, rec: &[u8]) -> bool
             if is_one_at(ONE_DIGIT, lax, rec, place::CLASS_AT) {
                 if is_one_at(ZERO_TO_FIVE, lax, rec, place::TYPE_AT) {
                     if is_short_text_at(rec, place::EXCHANGE_AT, place::EXCHANGE_SIZE) {
-                        return does_run_at(Class::Digit, 0, 5, rec, place::ESN_AT, place::ESN_SIZE);
+                        return does_run_at(
+                            Class::Digit,
+                            ZONE_LEAST,
+                            ZONE_MOST,
+                            rec,
+                            place::ESN_AT,
+                            place::ESN_SIZE,
+                        );
                     }
                 }
             }
@@ -286,8 +300,8 @@ fn has_good_order(rec: &[u8]) -> bool
                     if is_short_text_at(rec, place::COUNTY_AT, place::COUNTY_SIZE) {
                         if does_run_at(
                             Class::CapitalOrDigit,
-                            1,
-                            5,
+                            COMPANY_LEAST,
+                            COMPANY_MOST,
                             rec,
                             place::COMPANY_AT,
                             place::COMPANY_SIZE,
@@ -396,8 +410,8 @@ fn has_good_row_end(row: &[u8]) -> bool
 {
     if does_run_at(
         Class::Digit,
-        1,
-        5,
+        ROW_ZONE_LEAST,
+        ROW_ZONE_MOST,
         row,
         place::ROW_ESN_AT,
         place::ROW_ESN_SIZE,

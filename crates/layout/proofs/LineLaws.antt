@@ -1,8 +1,7 @@
--- Turns of the loops that walk a list two and three numbers at a time: the pairs of letters, and the fields of a table. A field that
--- is whole, and that one which keeps its rule has no fault.
+-- Turns of the loop that walks the fields of a table, three numbers at a time, and what a whole field and a kept rule say.
 -- Assumes nothing.
 use mathlib.Core.Path.{_≡_, _∙_, refl, sym, ap}
-use mathlib.Core.Bool.{Bool, true, false, _&&_, _||_}
+use mathlib.Core.Bool.{Bool, true, false}
 use mathlib.Core.List.{List, [], _∷_}
 use Prim.Native.Nat.{ℕ, _+_, _-_, _≤_, _<_}
 use native.Mathlib.Omega.{arith}
@@ -14,7 +13,7 @@ use Rattle.text.specs.Text.{allIn, part}
 use Rattle.text.proofs.Laws.{left-at, and-left, and-right}
 use Rattle.text.proofs.PartLaws.{all-part}
 use Rattle.layout.specs.Tables.{house, lowEnd, highEnd, parityLetter}
-use Rattle.layout.specs.Rules.{pairIn, keeps, keepsOther, keepsFrame, fromZero, isWhole, faultBy, faultIn, orElse}
+use Rattle.layout.specs.Rules.{keeps, keepsOther, keepsFrame, fromZero, isWhole, faultBy, faultIn, orElse}
 
 pub two-at : (s : List ℕ) (i : ℕ) → i + 1 < length s → drop i s ≡ getD s i 0 ∷ getD s (i + 1) 0 ∷ drop (i + 2) s
 two-at s i h =
@@ -28,29 +27,6 @@ three-at s i h =
     let a : i + 1 < length s = omega arith in
     let e : i + 2 + 1 ≡ i + 3 = omega arith in
     two-at s i a ∙ ap (λ x. getD s i 0 ∷ getD s (i + 1) 0 ∷ x) (left-at s (i + 2) h ∙ ap (λ k. getD s (i + 2) 0 ∷ drop k s) e)
-
--- ---- pairs
-
-module _ (a b : ℕ) (s : List ℕ) (i : ℕ) {v : Bool} (inv : pairIn a b (drop i s) ≡ v) where
-  pair-at : i + 1 < length s → ((eqb (getD s i 0) a && eqb (getD s (i + 1) 0) b) || pairIn a b (drop (i + 2) s)) ≡ v
-  pair-at h = sym (ap (pairIn a b) (two-at s i h)) ∙ inv
-
-  pub pair-found : i + 1 < length s → getD s i 0 ≡ a → getD s (i + 1) 0 ≡ b → true ≡ v
-  pair-found h p q = rw (eq-eqb _ _ p, eq-eqb _ _ q) at (pair-at h)
-
-  pub pair-first : i + 1 < length s → (getD s i 0 ≡ a → ⊥) → pairIn a b (drop (i + 2) s) ≡ v
-  pair-first h p = rw (ne-eqb _ _ p) at (pair-at h)
-
-  pub pair-second : i + 1 < length s → getD s i 0 ≡ a → (getD s (i + 1) 0 ≡ b → ⊥) → pairIn a b (drop (i + 2) s) ≡ v
-  pair-second h p q = rw (eq-eqb _ _ p, ne-eqb _ _ q) at (pair-at h)
-
-pair-short : (a b : ℕ) (t : List ℕ) → length t ≤ 1 → pairIn a b t ≡ false
-pair-short a b [] h = refl
-pair-short a b (p ∷ []) h = refl
-pair-short a b (p ∷ q ∷ t) h = absurd (omega arith)
-
-pub pair-none : (a b : ℕ) (s : List ℕ) (i : ℕ) {v : Bool} → pairIn a b (drop i s) ≡ v → length s ≤ i + 1 → false ≡ v
-pair-none a b s i inv h = sym (pair-short a b (drop i s) (simp length-drop (omega arith))) ∙ inv
 
 -- ---- fields; f is the fault of the field at i
 

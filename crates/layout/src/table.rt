@@ -1,5 +1,6 @@
 // 01, "Layouts": where each field of a line starts (from 1), how many bytes it has, and the rule that it keeps. Reading, checking
-// and writing all use these tables: no position stands anywhere else.
+// and writing all use these tables: no position stands anywhere else. Beside the number of a rule stand the letters or the bounds
+// that it names, for all that check it.
 ghost use mathlib.Core.Path.{_≡_};
 ghost use Rattle.layout.specs.Tables.{dataRecord, guideRow, header, trailer};
 
@@ -14,6 +15,8 @@ pub const NAMED: usize = 3;
 
 // C, D, I, U or M.
 pub const CODE: usize = 4;
+
+pub const CODES: [u8; 5] = [b'C', b'D', b'I', b'U', b'M'];
 
 // All digits.
 pub const DIGITS: usize = 5;
@@ -30,23 +33,37 @@ pub const ONE_DIGIT: usize = 8;
 // 0 to 5; in D and U of a data record it may be blank.
 pub const ZERO_TO_FIVE: usize = 9;
 
+pub const TYPES: [u8; 6] = [b'0', b'1', b'2', b'3', b'4', b'5'];
+
 // Capitals; in D and U of a data record they may be blank.
 pub const CAPITALS: usize = 10;
 
 // A space or `C`.
 pub const SPACE_OR_C: usize = 11;
 
+pub const SOURCES: [u8; 2] = [b' ', b'C'];
+
 // Blank, or 1 to 5 digits.
 pub const ZONE: usize = 12;
 
+pub const ZONE_LEAST: usize = 0;
+
+pub const ZONE_MOST: usize = 5;
+
 // 1 to 5 capitals and digits.
 pub const COMPANY_LETTERS: usize = 13;
+
+pub const COMPANY_LEAST: usize = 1;
+
+pub const COMPANY_MOST: usize = 5;
 
 // A date.
 pub const MMDDYY: usize = 14;
 
 // `*`.
 pub const STAR: usize = 15;
+
+pub const STARS: [u8; 1] = [b'*'];
 
 // 1 to 8 digits.
 pub const LOW_END: usize = 16;
@@ -60,8 +77,14 @@ pub const PARITY_LETTER: usize = 18;
 // 1 to 5 digits.
 pub const ROW_ZONE: usize = 19;
 
+pub const ROW_ZONE_LEAST: usize = 1;
+
+pub const ROW_ZONE_MOST: usize = 5;
+
 // `I` or `D`.
 pub const ROW_CODE: usize = 20;
+
+pub const ROW_CODES: [u8; 2] = [b'I', b'D'];
 
 // `UHL` and two spaces.
 pub const OPENING: usize = 21;

@@ -1,10 +1,11 @@
 // The rules of the fields, and the one checker that holds a line against its table.
 ghost use mathlib.Core.Path.{_≡_};
 ghost use mathlib.Core.Bool.{true};
+ghost use mathlib.Core.List.{[], _∷_};
 ghost use lib.ListN.{length};
 ghost use Rattle.text.specs.declared.Class.the-variants.{Printable};
 ghost use Rattle.text.specs.Text.{allIn};
-ghost use Rattle.layout.specs.Rules.{leftJustified, neededIn, spared, pairIn, isDirection, isDate, isCycle, isTally, keepsFrame, keepsOther, keeps};
+ghost use Rattle.layout.specs.Rules.{leftJustified, neededIn, spared, isDirection, isDate, isCycle, isTally, keepsFrame, keepsOther, keeps};
 ghost use Rattle.layout.specs.Rules.{houseFault, endFault, highFault, parityFault, isWhole, faultBy, fromZero, faultIn};
 use calendar::Date;
 use layout::counter;
@@ -14,7 +15,10 @@ use layout::field;
 use layout::table::CAPITALS;
 use layout::table::CLOSING;
 use layout::table::CODE;
+use layout::table::CODES;
+use layout::table::COMPANY_LEAST;
 use layout::table::COMPANY_LETTERS;
+use layout::table::COMPANY_MOST;
 use layout::table::DIGITS;
 use layout::table::DIRECTION;
 use layout::table::FREE;
@@ -27,14 +31,22 @@ use layout::table::ONE_DIGIT;
 use layout::table::OPENING;
 use layout::table::PARITY_LETTER;
 use layout::table::ROW_CODE;
+use layout::table::ROW_CODES;
 use layout::table::ROW_ZONE;
+use layout::table::ROW_ZONE_LEAST;
+use layout::table::ROW_ZONE_MOST;
+use layout::table::SOURCES;
 use layout::table::SPACE_OR_C;
 use layout::table::STAR;
+use layout::table::STARS;
 use layout::table::TALLY;
 use layout::table::TEXT;
 use layout::table::TURN;
+use layout::table::TYPES;
 use layout::table::ZERO_TO_FIVE;
 use layout::table::ZONE;
+use layout::table::ZONE_LEAST;
+use layout::table::ZONE_MOST;
 use text::Class;
 use text::Spelled;
 
@@ -68,33 +80,20 @@ fn is_needed(lax: bool, f: &[u8]) -> bool
     is_spared(lax, f)
 }
 
-// Whether two bytes are a pair of the set.
-fn pair_in(set: &[u8], a: u8, b: u8) -> bool
-    ensures { λ r. ⌜ r ≡ pairIn a b (now (set .entry)) ⌝ }
+// Whether two bytes are a directional: with a space behind, of one letter or none; otherwise of two.
+pub fn is_directional(a: u8, b: u8) -> bool
+    ensures { λ r. ⌜ r ≡ isDirection (a ∷ (b ∷ [])) ⌝ }
 {
-    let mut i = 0;
-    while i + 1 < set.len() {
-        if set[i] == a {
-            if set[i + 1] == b {
-                return true;
-            } else {
-                i += 2;
-            }
-        } else {
-            i += 2;
-        }
+    if b == b' ' {
+        return text::member(b" NSEW", a);
     }
-    false
+    text::member(b"NS", a) & text::member(b"EW", b)
 }
 
 fn is_direction(f: &[u8]) -> bool
     ensures { λ r. ⌜ r ≡ isDirection (now (f .entry)) ⌝ }
 {
-    pair_in(
-        b"  N S E W NENWSESW",
-        text::byte_of(f, 0),
-        text::byte_of(f, 1),
-    )
+    is_directional(text::byte_of(f, 0), text::byte_of(f, 1))
 }
 
 pub fn is_date(f: &[u8]) -> bool
@@ -142,13 +141,13 @@ fn keeps_other(rule: usize, f: &[u8]) -> bool
     ensures { λ r. ⌜ r ≡ keepsOther rule (now (f .entry)) ⌝ }
 {
     match rule {
-        SPACE_OR_C => text::all_of(f, b" C"),
-        ZONE => text::runs(f, Class::Digit, 0, 5),
-        COMPANY_LETTERS => text::runs(f, Class::CapitalOrDigit, 1, 5),
+        SPACE_OR_C => text::all_of(f, &SOURCES),
+        ZONE => text::runs(f, Class::Digit, ZONE_LEAST, ZONE_MOST),
+        COMPANY_LETTERS => text::runs(f, Class::CapitalOrDigit, COMPANY_LEAST, COMPANY_MOST),
         MMDDYY => is_date(f),
-        STAR => text::all_of(f, b"*"),
-        ROW_ZONE => text::runs(f, Class::Digit, 1, 5),
-        ROW_CODE => text::all_of(f, b"ID"),
+        STAR => text::all_of(f, &STARS),
+        ROW_ZONE => text::runs(f, Class::Digit, ROW_ZONE_LEAST, ROW_ZONE_MOST),
+        ROW_CODE => text::all_of(f, &ROW_CODES),
         _ => keeps_frame(rule, f),
     }
 }
@@ -161,11 +160,11 @@ fn does_keep(rule: usize, lax: bool, f: &[u8]) -> bool
         FREE => true,
         TEXT => is_left(f),
         NAMED => is_needed(lax, f),
-        CODE => text::all_of(f, b"CDIUM"),
+        CODE => text::all_of(f, &CODES),
         DIGITS => text::all_in(f, Class::Digit),
         DIRECTION => is_direction(f),
         ONE_DIGIT => is_spared(lax, f) | text::all_in(f, Class::Digit),
-        ZERO_TO_FIVE => is_spared(lax, f) | text::all_of(f, b"012345"),
+        ZERO_TO_FIVE => is_spared(lax, f) | text::all_of(f, &TYPES),
         CAPITALS => is_spared(lax, f) | text::all_in(f, Class::Capital),
         _ => keeps_other(rule, f),
     }
