@@ -1,6 +1,7 @@
 // A look at a whole record or row, field by field, written out in the order of its table. Nearly all lines are good: it says so
 // at once, with each place and each length known when it is compiled, and a fault is sought by the table only where it says no.
-// The table decides: each function here is shown to say yes only where the walk over the table finds nothing.
+// The table decides, and so the functions here promise one way only: true means that the walk over the table finds nothing. False
+// means nothing, and the walk is made: to answer false always would be right too, only slower.
 ghost use mathlib.Core.Path.{_≡_};
 ghost use mathlib.Core.Bool.{Bool, true, false, _&&_};
 ghost use mathlib.Core.List.{[], _∷_};
@@ -234,124 +235,149 @@ fn is_range(row: &[u8]) -> bool
 fn has_good_number(rec: &[u8]) -> bool
     ensures { λ r. ⌜ (r ≡ true → (lax : Bool) → allIn Printable (now (rec .entry)) ≡ true → faultFrom function lax (now (rec .entry)) dataRecord ≡ faultFrom prefix lax (now (rec .entry)) dataRecord) ⌝ }
 {
-    if is_one_at(CODE, false, rec, place::FUNCTION_AT) {
-        if are_all_at(Class::Digit, rec, place::NPA_AT, place::NPA_SIZE) {
-            if are_all_at(Class::Digit, rec, place::CALLING_AT, place::CALLING_SIZE) {
-                if is_house_at(rec, place::HOUSE_AT, place::HOUSE_SIZE) {
-                    return is_short_text_at(rec, place::HOUSE_SUFFIX_AT, place::HOUSE_SUFFIX_SIZE);
-                }
-            }
-        }
+    if !is_one_at(CODE, false, rec, place::FUNCTION_AT) {
+        return false;
     }
-    false
+    if !are_all_at(Class::Digit, rec, place::NPA_AT, place::NPA_SIZE) {
+        return false;
+    }
+    if !are_all_at(Class::Digit, rec, place::CALLING_AT, place::CALLING_SIZE) {
+        return false;
+    }
+    if !is_house_at(rec, place::HOUSE_AT, place::HOUSE_SIZE) {
+        return false;
+    }
+    is_short_text_at(rec, place::HOUSE_SUFFIX_AT, place::HOUSE_SUFFIX_SIZE)
 }
 
 // Prefix Directional to State.
 fn has_good_street(lax: bool, rec: &[u8]) -> bool
     ensures { λ r. ⌜ (r ≡ true → allIn Printable (now (rec .entry)) ≡ true → faultFrom prefix lax (now (rec .entry)) dataRecord ≡ faultFrom location lax (now (rec .entry)) dataRecord) ⌝ }
 {
-    if is_direction_at(rec, place::PREFIX_AT) {
-        if is_named_at(lax, rec, place::STREET_NAME_AT, place::STREET_NAME_SIZE) {
-            if is_short_text_at(rec, place::STREET_SUFFIX_AT, place::STREET_SUFFIX_SIZE) {
-                if is_direction_at(rec, place::POST_AT) {
-                    if is_named_at(lax, rec, place::COMMUNITY_AT, place::COMMUNITY_SIZE) {
-                        return are_capitals_at(lax, rec, place::STATE_AT, place::STATE_SIZE);
-                    }
-                }
-            }
-        }
+    if !is_direction_at(rec, place::PREFIX_AT) {
+        return false;
     }
-    false
+    if !is_named_at(lax, rec, place::STREET_NAME_AT, place::STREET_NAME_SIZE) {
+        return false;
+    }
+    if !is_short_text_at(rec, place::STREET_SUFFIX_AT, place::STREET_SUFFIX_SIZE) {
+        return false;
+    }
+    if !is_direction_at(rec, place::POST_AT) {
+        return false;
+    }
+    if !is_named_at(lax, rec, place::COMMUNITY_AT, place::COMMUNITY_SIZE) {
+        return false;
+    }
+    are_capitals_at(lax, rec, place::STATE_AT, place::STATE_SIZE)
 }
 
 // Location to ESN.
 fn has_good_customer(lax: bool, rec: &[u8]) -> bool
     ensures { λ r. ⌜ (r ≡ true → allIn Printable (now (rec .entry)) ≡ true → faultFrom location lax (now (rec .entry)) dataRecord ≡ faultFrom mainNpa lax (now (rec .entry)) dataRecord) ⌝ }
 {
-    if is_text_at(rec, place::LOCATION_AT, place::LOCATION_SIZE) {
-        if is_text_at(rec, place::CUSTOMER_NAME_AT, place::CUSTOMER_NAME_SIZE) {
-            if is_one_at(ONE_DIGIT, lax, rec, place::CLASS_AT) {
-                if is_one_at(ZERO_TO_FIVE, lax, rec, place::TYPE_AT) {
-                    if is_short_text_at(rec, place::EXCHANGE_AT, place::EXCHANGE_SIZE) {
-                        return does_run_at(
-                            Class::Digit,
-                            ZONE_LEAST,
-                            ZONE_MOST,
-                            rec,
-                            place::ESN_AT,
-                            place::ESN_SIZE,
-                        );
-                    }
-                }
-            }
-        }
+    if !is_text_at(rec, place::LOCATION_AT, place::LOCATION_SIZE) {
+        return false;
     }
-    false
+    if !is_text_at(rec, place::CUSTOMER_NAME_AT, place::CUSTOMER_NAME_SIZE) {
+        return false;
+    }
+    if !is_one_at(ONE_DIGIT, lax, rec, place::CLASS_AT) {
+        return false;
+    }
+    if !is_one_at(ZERO_TO_FIVE, lax, rec, place::TYPE_AT) {
+        return false;
+    }
+    if !is_short_text_at(rec, place::EXCHANGE_AT, place::EXCHANGE_SIZE) {
+        return false;
+    }
+    does_run_at(
+        Class::Digit,
+        ZONE_LEAST,
+        ZONE_MOST,
+        rec,
+        place::ESN_AT,
+        place::ESN_SIZE,
+    )
 }
 
 // Main NPA to Source.
 fn has_good_order(rec: &[u8]) -> bool
     ensures { λ r. ⌜ (r ≡ true → (lax : Bool) → allIn Printable (now (rec .entry)) ≡ true → faultFrom mainNpa lax (now (rec .entry)) dataRecord ≡ faultFrom zip lax (now (rec .entry)) dataRecord) ⌝ }
 {
-    if is_text_at(rec, place::MAIN_NPA_AT, place::MAIN_NPA_SIZE) {
-        if is_short_text_at(rec, place::MAIN_NUMBER_AT, place::MAIN_NUMBER_SIZE) {
-            if is_middling_text_at(rec, place::ORDER_AT, place::ORDER_SIZE) {
-                if is_date_at(rec, place::DATE_AT, place::DATE_SIZE) {
-                    if is_short_text_at(rec, place::COUNTY_AT, place::COUNTY_SIZE) {
-                        if does_run_at(
-                            Class::CapitalOrDigit,
-                            COMPANY_LEAST,
-                            COMPANY_MOST,
-                            rec,
-                            place::COMPANY_AT,
-                            place::COMPANY_SIZE,
-                        ) {
-                            return is_one_at(SPACE_OR_C, false, rec, place::SOURCE_AT);
-                        }
-                    }
-                }
-            }
-        }
+    if !is_text_at(rec, place::MAIN_NPA_AT, place::MAIN_NPA_SIZE) {
+        return false;
     }
-    false
+    if !is_short_text_at(rec, place::MAIN_NUMBER_AT, place::MAIN_NUMBER_SIZE) {
+        return false;
+    }
+    if !is_middling_text_at(rec, place::ORDER_AT, place::ORDER_SIZE) {
+        return false;
+    }
+    if !is_date_at(rec, place::DATE_AT, place::DATE_SIZE) {
+        return false;
+    }
+    if !is_short_text_at(rec, place::COUNTY_AT, place::COUNTY_SIZE) {
+        return false;
+    }
+    if !does_run_at(
+        Class::CapitalOrDigit,
+        COMPANY_LEAST,
+        COMPANY_MOST,
+        rec,
+        place::COMPANY_AT,
+        place::COMPANY_SIZE,
+    ) {
+        return false;
+    }
+    is_one_at(SPACE_OR_C, false, rec, place::SOURCE_AT)
 }
 
 // Zip to Y.
 fn has_good_comments(rec: &[u8]) -> bool
     ensures { λ r. ⌜ (r ≡ true → (lax : Bool) → allIn Printable (now (rec .entry)) ≡ true → faultFrom zip lax (now (rec .entry)) dataRecord ≡ faultFrom z lax (now (rec .entry)) dataRecord) ⌝ }
 {
-    if is_short_text_at(rec, place::ZIP_AT, place::ZIP_SIZE) {
-        if is_short_text_at(rec, place::ZIP_4_AT, place::ZIP_4_SIZE) {
-            if text::is_there(rec, place::GENERAL_USE_AT, place::GENERAL_USE_SIZE) {
-                if is_text_at(rec, place::CUSTOMER_CODE_AT, place::CUSTOMER_CODE_SIZE) {
-                    if is_text_at(rec, place::COMMENTS_AT, place::COMMENTS_SIZE) {
-                        if is_middling_text_at(rec, place::X_AT, place::X_SIZE) {
-                            return is_middling_text_at(rec, place::Y_AT, place::Y_SIZE);
-                        }
-                    }
-                }
-            }
-        }
+    if !is_short_text_at(rec, place::ZIP_AT, place::ZIP_SIZE) {
+        return false;
     }
-    false
+    if !is_short_text_at(rec, place::ZIP_4_AT, place::ZIP_4_SIZE) {
+        return false;
+    }
+    if !text::is_there(rec, place::GENERAL_USE_AT, place::GENERAL_USE_SIZE) {
+        return false;
+    }
+    if !is_text_at(rec, place::CUSTOMER_CODE_AT, place::CUSTOMER_CODE_SIZE) {
+        return false;
+    }
+    if !is_text_at(rec, place::COMMENTS_AT, place::COMMENTS_SIZE) {
+        return false;
+    }
+    if !is_middling_text_at(rec, place::X_AT, place::X_SIZE) {
+        return false;
+    }
+    is_middling_text_at(rec, place::Y_AT, place::Y_SIZE)
 }
 
 // Z to the last byte.
 fn has_good_end(rec: &[u8]) -> bool
     ensures { λ r. ⌜ (r ≡ true → (lax : Bool) → allIn Printable (now (rec .entry)) ≡ true → faultFrom z lax (now (rec .entry)) dataRecord ≡ 0) ⌝ }
 {
-    if is_short_text_at(rec, place::Z_AT, place::Z_SIZE) {
-        if is_short_text_at(rec, place::CELL_AT, place::CELL_SIZE) {
-            if is_text_at(rec, place::SECTOR_AT, place::SECTOR_SIZE) {
-                if is_short_text_at(rec, place::TAR_AT, place::TAR_SIZE) {
-                    if text::is_there(rec, place::RESERVED_AT, place::RESERVED_SIZE) {
-                        return is_one_at(STAR, false, rec, place::RECORD_STAR_AT);
-                    }
-                }
-            }
-        }
+    if !is_short_text_at(rec, place::Z_AT, place::Z_SIZE) {
+        return false;
     }
-    false
+    if !is_short_text_at(rec, place::CELL_AT, place::CELL_SIZE) {
+        return false;
+    }
+    if !is_text_at(rec, place::SECTOR_AT, place::SECTOR_SIZE) {
+        return false;
+    }
+    if !is_short_text_at(rec, place::TAR_AT, place::TAR_SIZE) {
+        return false;
+    }
+    if !text::is_there(rec, place::RESERVED_AT, place::RESERVED_SIZE) {
+        return false;
+    }
+    is_one_at(STAR, false, rec, place::RECORD_STAR_AT)
 }
 
 // Whether a record of printable bytes is seen to be good. That it is a whole one is said here once, so that the compiler leaves out
@@ -359,56 +385,63 @@ fn has_good_end(rec: &[u8]) -> bool
 pub fn is_good_record(lax: bool, rec: &[u8]) -> bool
     ensures { λ r. ⌜ (r ≡ true → allIn Printable (now (rec .entry)) ≡ true → faultIn lax (now (rec .entry)) dataRecord ≡ 0) ⌝ }
 {
-    if rec.len() == place::RECORD_SIZE {
-        if has_good_number(rec) {
-            if has_good_street(lax, rec) {
-                if has_good_customer(lax, rec) {
-                    if has_good_order(rec) {
-                        if has_good_comments(rec) {
-                            return has_good_end(rec);
-                        }
-                    }
-                }
-            }
-        }
+    if rec.len() != place::RECORD_SIZE {
+        return false;
     }
-    false
+    if !has_good_number(rec) {
+        return false;
+    }
+    if !has_good_street(lax, rec) {
+        return false;
+    }
+    if !has_good_customer(lax, rec) {
+        return false;
+    }
+    if !has_good_order(rec) {
+        return false;
+    }
+    if !has_good_comments(rec) {
+        return false;
+    }
+    has_good_end(rec)
 }
 
 // Prefix to Post.
 fn has_good_row_street(row: &[u8]) -> bool
     ensures { λ r. ⌜ (r ≡ true → allIn Printable (now (row .entry)) ≡ true → faultFrom rowPrefix false (now (row .entry)) guideRow ≡ faultFrom low false (now (row .entry)) guideRow) ⌝ }
 {
-    if is_direction_at(row, place::ROW_PREFIX_AT) {
-        if is_named_at(false, row, place::ROW_STREET_AT, place::ROW_STREET_SIZE) {
-            if is_short_text_at(row, place::ROW_SUFFIX_AT, place::ROW_SUFFIX_SIZE) {
-                return is_direction_at(row, place::ROW_POST_AT);
-            }
-        }
+    if !is_direction_at(row, place::ROW_PREFIX_AT) {
+        return false;
     }
-    false
+    if !is_named_at(false, row, place::ROW_STREET_AT, place::ROW_STREET_SIZE) {
+        return false;
+    }
+    if !is_short_text_at(row, place::ROW_SUFFIX_AT, place::ROW_SUFFIX_SIZE) {
+        return false;
+    }
+    is_direction_at(row, place::ROW_POST_AT)
 }
 
 // Community and State.
 fn has_good_row_place(row: &[u8]) -> bool
     ensures { λ r. ⌜ (r ≡ true → allIn Printable (now (row .entry)) ≡ true → faultFrom rowCommunity false (now (row .entry)) guideRow ≡ faultFrom parity false (now (row .entry)) guideRow) ⌝ }
 {
-    if is_named_at(
+    if !is_named_at(
         false,
         row,
         place::ROW_COMMUNITY_AT,
         place::ROW_COMMUNITY_SIZE,
     ) {
-        return are_capitals_at(false, row, place::ROW_STATE_AT, place::ROW_STATE_SIZE);
+        return false;
     }
-    false
+    are_capitals_at(false, row, place::ROW_STATE_AT, place::ROW_STATE_SIZE)
 }
 
 // ESN to the last byte.
 fn has_good_row_end(row: &[u8]) -> bool
     ensures { λ r. ⌜ (r ≡ true → allIn Printable (now (row .entry)) ≡ true → faultFrom rowEsn false (now (row .entry)) guideRow ≡ 0) ⌝ }
 {
-    if does_run_at(
+    if !does_run_at(
         Class::Digit,
         ROW_ZONE_LEAST,
         ROW_ZONE_MOST,
@@ -416,27 +449,32 @@ fn has_good_row_end(row: &[u8]) -> bool
         place::ROW_ESN_AT,
         place::ROW_ESN_SIZE,
     ) {
-        if text::is_there(row, place::ROW_FREE_AT, place::ROW_FREE_SIZE) {
-            if is_one_at(ROW_CODE, false, row, place::ROW_FUNCTION_AT) {
-                return is_one_at(STAR, false, row, place::ROW_STAR_AT);
-            }
-        }
+        return false;
     }
-    false
+    if !text::is_there(row, place::ROW_FREE_AT, place::ROW_FREE_SIZE) {
+        return false;
+    }
+    if !is_one_at(ROW_CODE, false, row, place::ROW_FUNCTION_AT) {
+        return false;
+    }
+    is_one_at(STAR, false, row, place::ROW_STAR_AT)
 }
 
 // Whether a row of printable bytes is seen to be good.
 pub fn is_good_row(row: &[u8]) -> bool
     ensures { λ r. ⌜ (r ≡ true → allIn Printable (now (row .entry)) ≡ true → faultIn false (now (row .entry)) guideRow ≡ 0) ⌝ }
 {
-    if row.len() == place::ROW_SIZE {
-        if has_good_row_street(row) {
-            if is_range(row) {
-                if has_good_row_place(row) {
-                    return has_good_row_end(row);
-                }
-            }
-        }
+    if row.len() != place::ROW_SIZE {
+        return false;
     }
-    false
+    if !has_good_row_street(row) {
+        return false;
+    }
+    if !is_range(row) {
+        return false;
+    }
+    if !has_good_row_place(row) {
+        return false;
+    }
+    has_good_row_end(row)
 }
