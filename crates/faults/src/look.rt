@@ -1,7 +1,7 @@
 // A look at a whole record or row, field by field, written out in the order of its table. Nearly all lines are good: it says so
 // at once, with each place and each length known when it is compiled, and a fault is sought by the table only where it says no.
-// The table decides, and so the functions here promise one way only: true means that the walk over the table finds nothing. False
-// means nothing, and the walk is made: to answer false always would be right too, only slower.
+// The table decides, and so a look promises one way only: true means that the walk over the table finds nothing. False means
+// nothing, and the walk is made: to answer false always would be right too, only slower.
 ghost use mathlib.Core.Path.{_≡_};
 ghost use mathlib.Core.Bool.{Bool, true, false, _&&_};
 ghost use mathlib.Core.List.{[], _∷_};

@@ -1,3 +1,5 @@
+-- The look's yes, which counts for printable bytes only, says that the walk finds 0, and 0 is returned; at every no the walk itself
+-- is made. In both, lax is isLax of the letter that `function` read.
 use mathlib.Core.Path.{_∙_, sym}
 use Rattle.layout.specs.Rules.{recordFault}
 use borrow.Author.Needs.{needs}

@@ -1,3 +1,5 @@
+-- The look's yes, which counts for printable bytes only, says that the walk finds 0, and 0 is returned; at every no the walk itself
+-- is made. A row has no lax fields.
 use mathlib.Core.Path.{_∙_, sym}
 use Rattle.layout.specs.Rules.{rowFault}
 use borrow.Author.Needs.{needs}

@@ -1,3 +1,5 @@
+-- Capitals are enough, lax or not (capitals-all); otherwise a yes is is_spared's over the same slice, which is the part (part-is):
+-- blank, where it may be (capitals-spared).
 use mathlib.Core.Path.{_∙_, sym}
 use Rattle.text.proofs.Laws.{part-is}
 use Rattle.layout.proofs.LineLaws.{never}

@@ -1,3 +1,4 @@
+-- Where both fours are blank the eight are: all-ends joins the first four and the last four of a part of eight.
 use mathlib.Core.Path.{_∙_, sym}
 use native.Mathlib.Omega.{arith}
 use Rattle.text.specs.declared.Class.the-variants.{Space}

@@ -1,3 +1,4 @@
+-- The four bytes read are the whole of the part (four-part, by the caller's bound), and are_spaces answers for those four.
 use Rattle.faults.proofs.LookLaws.{four-part}
 use borrow.Author.Needs.{needs}
 use Rattle.faults.proofs.look.are_four_blank.Statement.{statement}

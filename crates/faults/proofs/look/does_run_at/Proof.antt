@@ -1,3 +1,4 @@
+-- Where the bytes are there the slice is the part (part-is) and runs answers; where not, `there` is false on both sides.
 use mathlib.Core.Path.{_∙_, sym}
 use Rattle.faults.proofs.LookLaws.{there-le}
 use Rattle.text.proofs.Laws.{part-is}

@@ -1,3 +1,4 @@
+-- The caller's bound lets the slice be cut, it is the part (part-is), and end_in answers for it.
 use Rattle.text.proofs.Laws.{part-is}
 use borrow.Author.Needs.{needs}
 use Rattle.faults.proofs.look.end_at.Statement.{statement}

@@ -1,3 +1,5 @@
+-- Fields 24 to 30, none of which minds lax: each yes moves the walk one field on (field-kept). General Use is free, so that it is
+-- there is all that its rule asks.
 use mathlib.Core.Path.{_∙_, refl, sym}
 use Rattle.layout.specs.Tables.{dataRecord}
 use Rattle.layout.specs.Rules.{keeps, keepsOther}

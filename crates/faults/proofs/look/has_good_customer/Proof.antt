@@ -1,3 +1,5 @@
+-- Fields 11 to 16: each yes moves the walk one field on (field-kept). Class and Type are asked with the record's lax; the ESN's run
+-- from ZONE_LEAST to ZONE_MOST digits is its rule itself.
 use mathlib.Core.Path.{_∙_, refl, sym}
 use Rattle.layout.specs.Tables.{dataRecord}
 use Rattle.layout.specs.Rules.{keeps, keepsOther}

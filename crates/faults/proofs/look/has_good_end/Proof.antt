@@ -1,3 +1,5 @@
+-- Fields 31 to 36: each yes moves the walk one field on (field-kept), Reserved by being there. Behind the star the table ends,
+-- and the walk's answer computes to 0.
 use mathlib.Core.Path.{_∙_, refl, sym}
 use Rattle.layout.specs.Tables.{dataRecord}
 use Rattle.layout.specs.Rules.{keeps, keepsOther, faultIn}

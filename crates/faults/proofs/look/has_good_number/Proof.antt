@@ -1,3 +1,5 @@
+-- Fields 0 to 4: each yes moves the walk one field on (field-kept), and House Number's by the fault of its own, which is 0
+-- (house-passes). A no returns false, which promises nothing.
 use mathlib.Core.Path.{_∙_, refl, sym}
 use Rattle.layout.specs.Tables.{dataRecord}
 use Rattle.layout.specs.Rules.{keeps, keepsOther}

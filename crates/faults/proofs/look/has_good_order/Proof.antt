@@ -1,3 +1,5 @@
+-- Fields 17 to 23, none of which minds lax: each yes moves the walk one field on (field-kept). Date and Company ID have equations
+-- for answers, which are turned round.
 use mathlib.Core.Path.{_∙_, refl, sym}
 use Rattle.layout.specs.Tables.{dataRecord}
 use Rattle.layout.specs.Rules.{keeps, keepsOther}

@@ -1,3 +1,5 @@
+-- Fields 9 to 12: each yes moves the walk one field on (field-kept), the free part by being there. Behind the star the table ends,
+-- and the walk's answer computes to 0.
 use mathlib.Core.Path.{_∙_, refl, sym}
 use mathlib.Core.Bool.{false}
 use Rattle.layout.specs.Tables.{guideRow}

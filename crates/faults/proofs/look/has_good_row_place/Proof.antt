@@ -1,3 +1,4 @@
+-- Community and State, fields 6 and 7, with lax false: a blank one gets no yes, and each yes moves the walk on (field-kept).
 use mathlib.Core.Path.{_∙_, refl}
 use mathlib.Core.Bool.{false}
 use Rattle.layout.specs.Tables.{guideRow}

@@ -1,3 +1,4 @@
+-- Fields 0 to 3 of a row, asked with lax false: each yes moves the walk one field on (field-kept).
 use mathlib.Core.Path.{_∙_, refl}
 use mathlib.Core.Bool.{false}
 use Rattle.layout.specs.Tables.{guideRow}

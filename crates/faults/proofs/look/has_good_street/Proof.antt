@@ -1,3 +1,5 @@
+-- Fields 5 to 10: each yes moves the walk one field on (field-kept). The two names and the State are asked with the record's lax,
+-- the directionals and the suffix keep their rules with any.
 use mathlib.Core.Path.{_∙_, refl}
 use Rattle.layout.specs.Tables.{dataRecord}
 use Rattle.layout.specs.Rules.{keeps, keepsOther}

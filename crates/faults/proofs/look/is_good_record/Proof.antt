@@ -1,3 +1,5 @@
+-- The six parts meet end to end: each yes carries the walk from its first field to the next part's, and the last one to 0. The
+-- length's test is for the compiler alone, and no step uses it.
 use mathlib.Core.Path.{_∙_}
 use Rattle.faults.specs.Look.{faultFrom}
 use Rattle.layout.proofs.LineLaws.{never}

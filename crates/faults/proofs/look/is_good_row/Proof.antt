@@ -1,3 +1,5 @@
+-- is_range answers for Low, High and parity at once, though Community and State lie between them: its three faults are put in where
+-- the walk comes to each field (low-passes, high-passes, parity-passes), with the other parts' steps round them.
 use mathlib.Core.Path.{_∙_, refl}
 use mathlib.Core.Bool.{false}
 use Rattle.layout.specs.Tables.{guideRow, startOf, sizeOf, low, high, parity}

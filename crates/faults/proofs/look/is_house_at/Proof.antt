@@ -1,3 +1,5 @@
+-- A yes comes only where house_in found a number in the slice, which is the part (part-is): there houseFault is 0, whatever start
+-- it is asked with.
 use mathlib.Core.Path.{_∙_, sym}
 use Rattle.faults.proofs.LookLaws.{there-le}
 use Rattle.text.proofs.Laws.{part-is}

@@ -1,3 +1,5 @@
+-- A first byte that is no space is enough (text-begins). Otherwise a yes says that the first and the last eight bytes are blank;
+-- with 8 to 16 bytes no byte lies between them, so all are (all-ends).
 use mathlib.Core.Path.{_∙_, sym}
 use native.Mathlib.Omega.{arith}
 use Rattle.text.specs.declared.Class.the-variants.{Space}

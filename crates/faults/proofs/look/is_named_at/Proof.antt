@@ -1,3 +1,5 @@
+-- A first byte that is no space is enough, lax or not (name-begins). Otherwise a yes is is_spared's over the slice, which is the
+-- part (part-is): blank, where it may be (name-spared).
 use mathlib.Core.Path.{_∙_, sym}
 use Rattle.text.proofs.Laws.{part-is}
 use Rattle.layout.proofs.LineLaws.{never}

@@ -1,3 +1,4 @@
+-- A field of one byte that is there is the list of that byte (one-kept), and so keeps_one's yes is the field's.
 use mathlib.Core.Path.{_∙_, sym}
 use Rattle.layout.proofs.LineLaws.{never}
 use Rattle.faults.proofs.LookLaws.{there-le, one-kept}

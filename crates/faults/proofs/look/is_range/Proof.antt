@@ -1,3 +1,5 @@
+-- The parity byte lies behind both ends, so all three are there if it is. A yes has both ends as numbers, Low at most High and both
+-- of the parity, and each of the three faults is 0 by those, with the ends read once for all.
 use mathlib.Core.Path.{_∙_, sym}
 use native.Mathlib.Omega.{arith}
 use borrow.Author.Tests.{le-ltb}

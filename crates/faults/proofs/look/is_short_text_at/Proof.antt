@@ -1,3 +1,5 @@
+-- A first byte that is no space is enough (text-begins). Otherwise a yes says that the first and the last four bytes are blank;
+-- with 4 to 8 bytes no byte lies between them, so all are (all-ends).
 use mathlib.Core.Path.{_∙_, sym}
 use native.Mathlib.Omega.{arith}
 use Rattle.text.specs.declared.Class.the-variants.{Space}

@@ -1,3 +1,5 @@
+-- A first byte that is no space is enough (text-begins). Otherwise a yes comes from all_in over the slice, which is the part
+-- (part-is), and blank text is kept too (text-blank).
 use mathlib.Core.Path.{_∙_, sym}
 use Rattle.text.proofs.Laws.{part-is}
 use Rattle.layout.proofs.LineLaws.{never}

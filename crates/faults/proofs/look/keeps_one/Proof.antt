@@ -1,3 +1,5 @@
+-- The match opens keeps at the arm's rule. Of one byte `all of` asks the byte and then nothing; with a space allowed one-or-space
+-- says the same of the choice. A rule that has no arm gets no yes.
 use mathlib.Core.Path.{_∙_, ap, sym}
 use mathlib.Core.Bool.{true, _&&_}
 use lib.Dec.{eqb}

@@ -1,3 +1,5 @@
+-- Nine arms in the order of keeps, each opened by the number that the match names; where blank may be spared both sides of the
+-- `|` are put in. Behind nine false tests stands keeps_other's answer.
 use borrow.Author.Needs.{needs}
 use borrow.Author.Tests.{ne-eqb}
 use Rattle.layout.specs.Rules.{keeps}

@@ -1,3 +1,4 @@
+-- end_in's answer is endIn, which wants at least one digit: a number leaves 0, and NoNumber the field's start.
 use borrow.Author.Needs.{needs}
 use Rattle.layout.specs.Rules.{endFault}
 use Rattle.lines.proofs.check.end_fault.Tie as tie

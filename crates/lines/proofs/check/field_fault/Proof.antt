@@ -1,3 +1,5 @@
+-- A whole field is of printable bytes, as rule_fault asks (whole-clean), and n is its length (whole-long), so rule_fault's fault is
+-- the one for n. One that is not whole has its fault at its start by faultBy's first test.
 use mathlib.Core.Path.{sym, _∙_}
 use Rattle.layout.specs.Rules.{faultBy}
 use Rattle.layout.proofs.LineLaws.{whole-long, whole-clean}

@@ -1,3 +1,5 @@
+-- The fault of the table from number i on is that of the whole table, and length - i falls by three. A field's fault other than 0
+-- is the answer (fault-here), a 0 leaves the answer to the fields behind (fault-later), and fewer than three numbers have none.
 use mathlib.Core.Path.{_≡_}
 use Prim.Native.Nat.{_-_, _≤_}
 use lib.ListN.{length, drop}

@@ -1,3 +1,5 @@
+-- High is read before Low, as highFault does, and each that spells no number ends it. With both numbers known, the code's
+-- `high < low` is the definition's ltb.
 use borrow.Author.Needs.{needs}
 use borrow.Author.Tests.{lt-ltb, le-ltb}
 use Rattle.layout.specs.Rules.{highFault}

@@ -1,3 +1,4 @@
+-- house_in's answer is houseIn, in which a blank field is a number too: a number leaves 0, and only NoNumber the field's start.
 use borrow.Author.Needs.{needs}
 use Rattle.layout.specs.Rules.{houseFault}
 use Rattle.lines.proofs.check.house_fault.Tie as tie

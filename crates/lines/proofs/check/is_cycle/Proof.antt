@@ -1,3 +1,4 @@
+-- cycle_in's answer is cycleOf; isCycle forgets the number and keeps only that there is one, as the two ways out do.
 use borrow.Author.Needs.{needs}
 use Rattle.layout.specs.Rules.{isCycle}
 use Rattle.lines.proofs.check.is_cycle.Tie as tie

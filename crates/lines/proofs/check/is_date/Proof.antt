@@ -1,3 +1,4 @@
+-- day_in's answer is dayOf; isDate asks only which of its two forms that is, and each way out of the `let` knows the form.
 use borrow.Author.Needs.{needs}
 use Rattle.layout.specs.Rules.{isDate}
 use Rattle.lines.proofs.check.is_date.Tie as tie

@@ -1,3 +1,5 @@
+-- A first byte that is no space, or no byte, makes the run of spaces 0 (no-spaces-at); a space makes it more (spaces-at), and then
+-- only is_blank's answer is left of leftJustified.
 use Rattle.text.proofs.PartLaws.{no-spaces-at, spaces-at}
 use borrow.Author.Needs.{needs}
 use Rattle.lines.proofs.check.is_left.Statement.{statement}

@@ -1,3 +1,5 @@
+-- As in is_left the first byte says whether the run of spaces is 0; behind a space is_spared's answer is what is left of neededIn,
+-- and not blankness alone.
 use Rattle.text.proofs.PartLaws.{no-spaces-at, spaces-at}
 use borrow.Author.Needs.{needs}
 use Rattle.lines.proofs.check.is_needed.Statement.{statement}

@@ -1,3 +1,4 @@
+-- count_in's answer is countOf; isTally forgets the count and keeps only that there is one, as the two ways out do.
 use borrow.Author.Needs.{needs}
 use Rattle.layout.specs.Rules.{isTally}
 use Rattle.lines.proofs.check.is_tally.Tie as tie

@@ -1,3 +1,4 @@
+-- The length's test is the same on both sides, and all_in answers for the bytes.
 use borrow.Author.Needs.{needs}
 use Rattle.layout.specs.Rules.{isWhole}
 use Rattle.lines.proofs.check.is_whole.Tie as tie

@@ -1,3 +1,5 @@
+-- The match names the number of its arm, which opens keepsFrame at the same cond; the callee answers there. In the last arm the four
+-- tests are false (ne-eqb), and nothing is kept.
 use borrow.Author.Needs.{needs}
 use borrow.Author.Tests.{ne-eqb}
 use Rattle.layout.specs.Rules.{keepsFrame}

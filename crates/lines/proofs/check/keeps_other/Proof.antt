@@ -1,3 +1,5 @@
+-- Seven arms in keepsOther's order, each opened by the number that the match names; letters and bounds are the table's, and compute
+-- to the definition's. Behind seven false tests stands keeps_frame's answer.
 use borrow.Author.Needs.{needs}
 use borrow.Author.Tests.{ne-eqb}
 use Rattle.layout.specs.Rules.{keepsOther}

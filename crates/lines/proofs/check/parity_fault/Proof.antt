@@ -1,3 +1,5 @@
+-- Low is read before High, as parityFault does, and each that spells no number ends it. The nested tests are its conjunction:
+-- the first false one decides. The parity is read twice, and the second reading is turned back into the first.
 use borrow.Author.Needs.{needs}
 use Rattle.layout.specs.Rules.{parityFault}
 use Rattle.lines.proofs.check.parity_fault.Tie as tie

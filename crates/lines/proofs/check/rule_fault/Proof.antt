@@ -1,3 +1,5 @@
+-- A field of printable bytes is whole at its own length, which opens faultBy. Four rules have a fault of their own, by the match;
+-- for all others does_keep's answer chooses between 0 and the start.
 use mathlib.Core.Path.{refl}
 use lib.ListN.{length}
 use borrow.Author.Tests.{eq-eqb, ne-eqb}

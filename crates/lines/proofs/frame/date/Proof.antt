@@ -1,3 +1,4 @@
+-- part_of cuts out six bytes from 5 on, which is where header's table has the date: the constants compute to dateOf's numbers.
 use borrow.Author.Needs.{needs}
 use Rattle.layout.specs.Frames.{dateOf}
 use Rattle.lines.proofs.frame.date.Tie as tie

@@ -1,3 +1,5 @@
+-- headerOf asks in the code's order: the table, the day, the cycle. Each return puts the answers of the calls so far into it.
+-- A table that was walked says nothing here of day and cycle, so each of the two has its own way out.
 use borrow.Author.Needs.{needs}
 use borrow.Author.Tests.{eq-eqb, ne-eqb}
 use Rattle.layout.specs.Frames.{headerOf}

@@ -1,3 +1,4 @@
+-- sameFrame is the same two comparisons, date first; what date and name give of each line is put in for dateOf and nameOf.
 use borrow.Author.Needs.{needs}
 use Rattle.layout.specs.Frames.{sameFrame}
 use Rattle.lines.proofs.frame.is_same_frame.Tie as tie

@@ -1,3 +1,4 @@
+-- part_of cuts out 50 bytes from 11 on, which is where header's table has the name: the constants compute to nameOf's numbers.
 use borrow.Author.Needs.{needs}
 use Rattle.layout.specs.Frames.{nameOf}
 use Rattle.lines.proofs.frame.name.Tie as tie

@@ -1,3 +1,5 @@
+-- Each call writes over what the one before left, spaces first and the letters last. frameWith nests the same six writings, so
+-- their promises go in from the innermost out.
 use Rattle.layout.specs.Frames.{frameWith}
 use borrow.Author.Needs.{needs}
 use Rattle.lines.proofs.frame.put_frame.Statement.{statement}

@@ -1,3 +1,4 @@
+-- The counter is six spaces with the cycle's digits at their left, as Cycle::put leaves them; put_frame's promise at it is headerWith.
 use Rattle.layout.specs.Frames.{headerWith}
 use borrow.Author.Needs.{needs}
 use Rattle.lines.proofs.frame.put_header.Statement.{statement}

@@ -1,3 +1,4 @@
+-- The counter is nine spaces with the count at their right, as put_right leaves them; put_frame's promise at it is trailerWith.
 use Rattle.layout.specs.Frames.{trailerWith}
 use borrow.Author.Needs.{needs}
 use Rattle.lines.proofs.frame.put_trailer.Statement.{statement}

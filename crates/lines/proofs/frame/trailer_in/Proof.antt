@@ -1,3 +1,5 @@
+-- trailerOf asks in the code's order: the table, the header's date and name, the count. Each return puts the answers so far into it,
+-- and a count that cannot be read has its own way out, though the table's walk saw it.
 use borrow.Author.Needs.{needs}
 use borrow.Author.Tests.{eq-eqb, ne-eqb}
 use Rattle.layout.specs.Frames.{trailerOf}
