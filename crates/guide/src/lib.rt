@@ -1,10 +1,10 @@
-// The guide's slots of 208 bytes: what is read from one, the walks over them, and the one place that writes one.
+// The guide's slots of 208 bytes: what is read from one, the walks over them, and all that writes one: no other crate does.
 ghost use mathlib.Core.Path.{_≡_};
 ghost use mathlib.Core.Bool.{false, _&&_};
 ghost use Prim.Native.Nat.{_≤_};
 ghost use lib.ListN.{length, replicate};
 ghost use Rattle.rules.specs.Walks.{sought};
-ghost use Rattle.rules.specs.Slots.{rowSlots, isPresent, isVacant, rowOf, rowWritten};
+ghost use Rattle.rules.specs.Slots.{rowSlots, rowSlotAt, isPresent, isVacant, rowOf, rowWritten};
 ghost use Rattle.rules.specs.Covers.{over};
 ghost use Rattle.rules.specs.Records.{isOver};
 ghost use Rattle.rules.specs.Rows.{clashesBy, clashAt, vacantAt, isSameBy, sameAt};
@@ -38,6 +38,16 @@ pub fn row(slot: &[u8]) -> &[u8]
     ensures { λ r. ⌜ now r ≡ rowOf (now (slot .entry)) ⌝ }
 {
     text::part_of(slot, ROW_AT, place::ROW_SIZE)
+}
+
+// The row in slot k of the guide. Behind the last slot there is only what is left of its bytes, and then nothing.
+pub fn row_at(guide: &[u8], k: usize) -> &[u8]
+    ensures { λ r. ⌜ now r ≡ rowOf (rowSlotAt (now (guide .entry)) k) ⌝ }
+{
+    if k <= guide.len() / SLOT {
+        return row(text::part_of(guide, k * SLOT, SLOT));
+    }
+    &guide[0..0]
 }
 
 // Whether the row in a slot may be of a street: the first sixteen bytes, two words, nearly always tell two streets apart.

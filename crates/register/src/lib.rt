@@ -1,8 +1,8 @@
-// The register's slots of 520 bytes: what is read from one, the walks over them, and the one place that writes one.
+// The register's slots of 520 bytes: what is read from one, the walks over them, and all that writes one: no other crate does.
 ghost use mathlib.Core.Path.{_≡_};
 ghost use Rattle.rules.specs.Walks.{sought};
-ghost use Rattle.rules.specs.Slots.{slots, stateOf, isUsed, isLive, slotDay, recordOf, restated, written};
-ghost use Rattle.rules.specs.Records.{isOf, hasNumber, isFreeSlot, freeAt, isReusable, reusableAt};
+ghost use Rattle.rules.specs.Slots.{slots, slotAt, stateOf, isUsed, isLive, slotDay, recordOf, restated, written};
+ghost use Rattle.rules.specs.Records.{isOf, hasNumber, isFreeSlot, freeAt, isReusable, reusableAt, shown};
 ghost use Rattle.rules.specs.Rows.{isEntryUnder, entryUnder};
 ghost use Rattle.text.specs.Text.{sameBytes};
 use calendar::Day;
@@ -20,6 +20,16 @@ pub const SLOT: usize = RECORD_AT + place::RECORD_SIZE;
 
 // How many days a number rests before its slot may be used anew.
 const REST: u32 = 90;
+
+// Slot i of the register. Behind the last there is only what is left of its bytes, and then nothing.
+pub fn slot_at(register: &[u8], i: usize) -> &[u8]
+    ensures { λ r. ⌜ now r ≡ slotAt (now (register .entry)) i ⌝ }
+{
+    if i <= register.len() / SLOT {
+        return text::part_of(register, i * SLOT, SLOT);
+    }
+    &register[0..0]
+}
 
 pub fn state(slot: &[u8]) -> u8
     ensures { λ r. ⌜ r ≡ stateOf (now (slot .entry)) ⌝ }
@@ -214,9 +224,23 @@ pub fn restate(slot: &mut [u8], state: u8, day: Day)
 }
 
 // State, day and record of a slot.
-pub fn write_slot(slot: &mut [u8], state: u8, day: Day, rec: &[u8])
+fn write_slot(slot: &mut [u8], state: u8, day: Day, rec: &[u8])
     ensures { λ _. ⌜ now (slot .exit) ≡ written state day (now (rec .entry)) (now (slot .entry)) ⌝ }
 {
     restate(&mut slot[..], state, day);
     text::put(&mut slot[..], RECORD_AT, rec);
+}
+
+// The same with what an entry shows, the record with a blank ESN filled in from its row: it is filled in where the record was put.
+pub fn write_shown(slot: &mut [u8], state: u8, day: Day, rec: &[u8], row: &[u8])
+    ensures { λ _. ⌜ now (slot .exit) ≡ written state day (shown (now (rec .entry)) (now (row .entry))) (now (slot .entry)) ⌝ }
+{
+    write_slot(&mut slot[..], state, day, rec);
+    if field::has_esn(rec) {
+        return;
+    }
+    if text::is_there(&slot[..], RECORD_AT, rec.len()) {
+        let e = RECORD_AT + rec.len();
+        field::fill_esn(&mut slot[RECORD_AT..e], field::row_esn(row));
+    }
 }

@@ -2,18 +2,17 @@
 -- Assumes nothing.
 use mathlib.Core.Path.{_≡_, _∙_, refl, sym, ap}
 use mathlib.Core.Bool.{Bool, true, false, _&&_, not, cond}
-use mathlib.Core.List.{List, [], _∷_, _++_, append-nil}
+use mathlib.Core.List.{List, [], _∷_}
 use Prim.Native.Nat.{ℕ, _<_}
 use native.Mathlib.Omega.{arith}
 use lib.Dec.{eqb}
-use lib.ListN.{length, take, drop, drop-of-length-le}
-use lib.Seq.{take-all}
+use lib.ListN.{length}
 use borrow.Author.Tests.{eq-eqb, ne-eqb, eqb-true, eqb-false}
 use Rattle.text.proofs.Laws.{and-true, and-false}
 use Rattle.calendar.specs.declared.Day.{Day}
 use Rattle.layout.specs.declared.frame.Header.{Header}
 use Rattle.calendar.specs.Calendar.{onDay}
-use Rattle.layout.specs.Fields.{numberOf, functionOf, dateOf, rowFunctionOf, withEsn}
+use Rattle.layout.specs.Fields.{numberOf, functionOf, dateOf, rowFunctionOf}
 use Rattle.rules.specs.declared.RowCode.the-variants.{Insert as InsertRow, Delete as DeleteRow, NoCode}
 use Rattle.rules.specs.Rows.{rowCodeOf}
 use Rattle.rules.specs.declared.Code.{Code}
@@ -27,15 +26,6 @@ use Rattle.rules.specs.Records.{isInsert, stores, stateAfter, otherEsn, findNum
 use Rattle.rules.proofs.WalkLaws.{clash-bool, not-false, find-some, positive, first-append, first-zero, AllFail}
 use Rattle.steps.specs.Deciding.{early, under, inSpare, settled, decidedStored, decided}
 use Rattle.steps.specs.declared.data.Decided.{Decided}
-
--- an ESN filled in the record's part of a slot W, which comes back as F
-pub fill-slot : (b : ℕ) (d : Day) (r e W F : List ℕ) → length r ≡ 512 → W ≡ slotOf b d r → F ≡ withEsn e (take 512 (drop 8 W))
-    → take 8 W ++ (F ++ drop 512 (drop 8 W)) ≡ slotOf b d (withEsn e r)
-unfolding slotOf
-fill-slot b d r e W F h w f =
-    let t : take 512 r ≡ r = take-all 512 r (omega arith) in
-    let z : drop 512 r ≡ [] = drop-of-length-le r {i = 512} (omega arith) in
-    rw (f, w, t, z, append-nil)
 
 -- ---- what is decided is the table's answer, and where the record goes
 
@@ -157,6 +147,17 @@ unfolding settled
 settled-by R today (At i) k = refl
 settled-by R today Nothing k = refl
 
+-- without a slot the answer is not 0: the number is absent, so the record is an I, and 20 is for an I that finds no spare slot
+no-slot {ℓ} : {A : Type ℓ} (R G : List ℕ) (h : Header) (r : List ℕ) (c : Code) (d : Day) (m k p : Found)
+    → first (table R G h r c d m k p) ≡ 0 → orElse m p ≡ Nothing → A
+unfolding AllFail positive
+no-slot R G h r c d (At i) k p z e = let y : _≡_ {A = ℕ} 0 1 = cc in absurd (omega arith)
+no-slot R G h r c d Nothing k (At j) z e = let y : _≡_ {A = ℕ} 0 1 = cc in absurd (omega arith)
+no-slot R G h r c d Nothing k Nothing z e =
+    let t = first-zero (table R G h r c d Nothing k Nothing) refl z in
+    clash-bool (not-false (isInsert c) (sym (and-true (not (isInsert c))) ∙ t .1 .1 .0))
+    (sym (and-true (isInsert c)) ∙ t .1 .1 .1 .1 .1 .1 .1 .1 .1 .0)
+
 -- what is found lies in the register
 in-either : (o q : Found) (n i : ℕ) → ((j : ℕ) → o ≡ At j → j < n) → ((j : ℕ) → q ≡ At j → j < n) → orElse o q ≡ At i → i < n
 in-either (At j) q n i f g e = f i e
@@ -202,10 +203,6 @@ module _ (R G : List ℕ) (h : Header) (r : List ℕ) (c : Code) (d : Day) where
       unfolding applied step answerOf
       taken = rw (f, ← does .answer, eq-eqb (x .answer) 0 z)
 
-      pub acts-nowhere : x .slot ≡ Nothing → record { answer = 0; register = R } ≡ applied R G h r
-      unfolding registerAfter
-      acts-nowhere n = rw (← does .slot z, n) at taken
-
       pub acts-kept : (i : ℕ) → x .slot ≡ At i → stores c ≡ false
           → record { answer = 0; register = withSlot R i (slotOf (stateAfter c) d (recordOf (slotAt R i))) } ≡ applied R G h r
       unfolding registerAfter
@@ -216,7 +213,11 @@ module _ (R G : List ℕ) (h : Header) (r : List ℕ) (c : Code) (d : Day) where
       unfolding registerAfter
       acts-stored i k n s o = rw (← does .slot z, n, s, ← does .row z s, o) at taken
 
-      -- the slot and the row are there
+      -- a slot was found, and a row for a record that is stored: they are there
+      pub acts-nowhere {ℓ} : {A : Type ℓ} → x .slot ≡ Nothing → A
+      acts-nowhere n =
+          no-slot R G h r c d (findNumber (numberOf r) R) (findRow r G) (findSpare (h .day) R) (sym (does .answer) ∙ z) (sym (does .slot z) ∙ n)
+
       pub acts-slot : (i : ℕ) → x .slot ≡ At i → i < slots R
       unfolding findNumber findSpare findFree findReusable
       acts-slot i n =

@@ -1,4 +1,5 @@
-// One data record: the answers 11 to 20 and 0, first hit decides, and what 0 does. A search runs only where its answer is tested.
+// One data record: the answers 11 to 20 and 0, first hit decides, and what 0 does. The number's own slot is sought first; a row only
+// for a record that is to be stored and that 11 to 17 let pass, and a spare slot only where 18 and 19 do too and the number has none.
 ghost use mathlib.Core.Path.{_≡_};
 ghost use mathlib.Core.Bool.{true, _&&_};
 ghost use Prim.Native.Nat.{_<_};
@@ -25,13 +26,13 @@ pub struct Decided {
     pub row: Found,
 }
 
-// The state of the number's slot; 0 where it has none.
+// The state of the number's slot; that of a free one where it has none.
 fn state_in(register: &[u8], m: Found) -> u8
     requires { ⌜ below (slots (now register)) m ≡ true ⌝ }
     ensures { λ r. ⌜ r ≡ stateIn (now (register .entry)) m ⌝ }
 {
     let Found::At(i) = m else {
-        return 0;
+        return states::FREE;
     };
     register::state(place::slot_at(register, i))
 }
@@ -93,7 +94,7 @@ fn state_answer(c: Code, state: u8) -> u8
     if code::is_own(c) & (state == states::OPEN) {
         return answering::OPEN;
     }
-    0
+    answering::DONE
 }
 
 // The answers 11 to 17: what the date, the code and the number's own slot decide.
@@ -106,7 +107,7 @@ fn early_answer(register: &[u8], today: Day, rec: &[u8], c: Code, d: Day, m: Fou
     }
     let state = state_in(register, m);
     let answer = state_answer(c, state);
-    if answer != 0 {
+    if answer != answering::DONE {
         return answer;
     }
     if is_foreign(register, m, rec, c, state) {
@@ -115,7 +116,7 @@ fn early_answer(register: &[u8], today: Day, rec: &[u8], c: Code, d: Day, m: Fou
     if is_too_early(register, m, c, d) {
         return answering::TOO_EARLY;
     }
-    0
+    answering::DONE
 }
 
 fn is_other_esn(guide: &[u8], k: Found, rec: &[u8]) -> bool
@@ -142,7 +143,7 @@ fn under_answer(guide: &[u8], rec: &[u8], k: Found) -> u8
     if is_other_esn(guide, k, rec) {
         return answering::OTHER_ESN;
     }
-    0
+    answering::DONE
 }
 
 // The lowest free slot, else the lowest resting one that may be used anew.
@@ -191,7 +192,7 @@ fn decide_stored(register: &[u8], guide: &[u8], today: Day, rec: &[u8], m: Found
     let over = guide::find_row(guide, rec);
     let k = over.found;
     let answer = under_answer(guide, rec, k);
-    if answer != 0 {
+    if answer != answering::DONE {
         return Decided {
             answer,
             slot: m,
@@ -207,7 +208,7 @@ fn decide(register: &[u8], guide: &[u8], today: Day, rec: &[u8], c: Code, d: Day
     let own = register::find_number(register, field::number(rec));
     let m = own.found;
     let answer = early_answer(register, today, rec, c, d, m);
-    if answer != 0 {
+    if answer != answering::DONE {
         return Decided {
             answer,
             slot: m,
@@ -224,18 +225,6 @@ fn decide(register: &[u8], guide: &[u8], today: Day, rec: &[u8], c: Code, d: Day
     }
 }
 
-// A record, a blank ESN filled in from its row, into the 520 bytes of a slot.
-fn write_shown(slot: &mut [u8], state: u8, d: Day, rec: &[u8], row: &[u8])
-    requires { ⌜ (length (now slot) ≡ 520) × (length (now rec) ≡ 512) ⌝ }
-    ensures { λ _. ⌜ now (slot .exit) ≡ slotOf state d (shown (now (rec .entry)) (now (row .entry))) ⌝ }
-{
-    register::write_slot(&mut slot[..], state, d, rec);
-    if field::has_esn(rec) {
-        return;
-    }
-    field::fill_esn(&mut slot[8..520], field::row_esn(row));
-}
-
 // The slot's part of the register is lent on to be written.
 fn store_at(register: &mut [u8], i: usize, state: u8, d: Day, rec: &[u8], row: &[u8])
     requires { ⌜ (i < slots (now register)) × (length (now rec) ≡ 512) ⌝ }
@@ -243,7 +232,7 @@ fn store_at(register: &mut [u8], i: usize, state: u8, d: Day, rec: &[u8], row: &
 {
     let a = i * register::SLOT;
     let e = a + register::SLOT;
-    write_shown(&mut register[a..e], state, d, rec, row);
+    register::write_shown(&mut register[a..e], state, d, rec, row);
 }
 
 fn restate_at(register: &mut [u8], i: usize, state: u8, d: Day)
@@ -255,28 +244,29 @@ fn restate_at(register: &mut [u8], i: usize, state: u8, d: Day)
     register::restate(&mut register[a..e], state, d);
 }
 
-// One data record on what the earlier ones left: its answer, and the register afterwards.
+// One data record on what the earlier ones left: its answer, and the register afterwards. What is answered 0 has a slot, and a row
+// where it is stored, so the two arms without one are never come to.
 pub fn apply_record(register: &mut [u8], guide: &[u8], header: Header, rec: &[u8]) -> u8
     ensures { λ r. ⌜ (r ≡ applied (now (register .entry)) (now (guide .entry)) header (now (rec .entry)) .answer)
         × (now (register .exit) ≡ applied (now (register .entry)) (now (guide .entry)) header (now (rec .entry)) .register) ⌝ }
 {
     let Filed::Record(c, d) = code::filed(rec) else {
-        return 11;
+        return answering::AFTER_HEADER;
     };
     let today = header.day;
     let decided = decide(&register[..], guide, today, rec, c, d);
     let answer = decided.answer;
-    if answer != 0 {
+    if answer != answering::DONE {
         return answer;
     }
     let slot = decided.slot;
     let row = decided.row;
     let Found::At(i) = slot else {
-        return 0;
+        return answering::NO_SLOT;
     };
     if code::does_store(c) {
         let Found::At(k) = row else {
-            return 0;
+            return answering::NO_ROW;
         };
         store_at(
             &mut register[..],
@@ -286,8 +276,8 @@ pub fn apply_record(register: &mut [u8], guide: &[u8], header: Header, rec: &[u8
             rec,
             place::row_at(guide, k),
         );
-        return 0;
+        return answering::DONE;
     }
     restate_at(&mut register[..], i, code::state_after(c), d);
-    0
+    answering::DONE
 }

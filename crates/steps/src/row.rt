@@ -49,7 +49,7 @@ fn insert_row(register: &[u8], guide: &mut [u8], row: &[u8]) -> u8
         return answering::GUIDE_FULL;
     };
     write_at(&mut guide[..], k, row);
-    0
+    answering::DONE
 }
 
 // D: 23 where no row is the same, 24 where it covers a held or open entry, else its slot becomes all zero.
@@ -68,7 +68,7 @@ fn delete_row(register: &[u8], guide: &mut [u8], row: &[u8]) -> u8
         return answering::ROW_IN_USE;
     };
     clear_at(&mut guide[..], k);
-    0
+    answering::DONE
 }
 
 // One guide row on what the earlier ones left: its answer, and the guide afterwards.

@@ -49,13 +49,21 @@ same-length-2 c = search needs
 returns-3 : tie.Need-returns-3
 returns-3 c =
     let at-if1 = c .before .before in
+    let if1 = at-if1 .if1 in
     let decide = at-if1 .before .decide in
     let at-c = at-if1 .before .before .before .before .before in
+    let the-c = at-c .c in
     let filed = at-c .before .before .filed in
     let at-start = at-c .before .before .before .before .before .before .args in
-    let q = acts-nowhere (at-start .register .now) (at-start .guide .now) (at-start .header) (at-start .rec .now) _ _ (decide .result)
-    (sym (filed .ensures) ∙ at-c .c .given .1) (decide .ensures) (at-if1 .if1 .left) (c .enum-told2 .given .1) in
-    (ap (λ (x : Step). x .answer) q, ap (λ (x : Step). x .register) q)
+    let header = at-start .header in
+    let register = at-start .register .now in
+    let guide = at-start .guide .now in
+    let rec = at-start .rec .now in (
+      acts-nowhere register guide header rec _ _ (decide .result) (sym (filed .ensures) ∙ the-c .given .1) (decide .ensures) (if1 .left)
+          (c .enum-told2 .given .1),
+      acts-nowhere register guide header rec _ _ (decide .result) (sym (filed .ensures) ∙ the-c .given .1) (decide .ensures) (if1 .left)
+          (c .enum-told2 .given .1),
+    )
 
 does-store-requires : tie.Need-does-store-requires
 does-store-requires c κs = search needs

@@ -1,8 +1,11 @@
 use mathlib.Core.Path.{_∙_, ap}
 use denote.Ref.{now}
 use borrow.Author.Needs.{needs}
-use Rattle.rules.specs.Slots.{withSlot}
-use Rattle.rules.proofs.PlaceLaws.{place-back}
+use Rattle.rules.specs.Slots.{slotAt, withSlot, written}
+use Rattle.rules.specs.Records.{shown}
+use Rattle.rules.proofs.PlaceLaws.{place-back, place-part}
+use Rattle.rules.proofs.SlotLaws.{written-slot, length-slot-at}
+use Rattle.register.proofs.ShownLaws.{shown-length}
 use Rattle.steps.proofs.data.store_at.Tie as tie
 use Rattle.steps.proofs.data.store_at.Statement.{statement}
 
@@ -30,10 +33,19 @@ same-length c = search needs
 returns : tie.Need-returns
 returns c =
     let write-shown = c .before .before .write-shown in
-    let at-start = c .before .before .before .before .before .before .before .args in
-    let i = at-start .i in
-    let register = at-start .register .now in
-    place-back 520 register i (write-shown .last .0) ∙ ap (withSlot register i) (write-shown .ensures)
+    let at-start = c .before .before .before .before .before .before .before in
+    let pre = at-start .pre in
+    let i = at-start .args .i in
+    let state = at-start .args .state in
+    let d = at-start .args .d in
+    let rec = at-start .args .rec .now in
+    let row = at-start .args .row .now in
+    let register = at-start .args .register .now in
+    place-back 520 register i (write-shown .last .0)
+    ∙ ap (withSlot register i)
+    (write-shown .ensures
+    ∙ ap (written state d (shown rec row)) (place-part 520 register i)
+    ∙ written-slot state d (shown rec row) (slotAt register i) (shown-length rec row ∙ pre .1) (length-slot-at register i (pre .0)))
 
 pub store-at-spec : {M : Type 1} → statement M
 store-at-spec =
