@@ -1,4 +1,4 @@
-// Whether a row covers an address, and whether two rows clash or are the same. The cheap tests come first.
+// Whether a row covers an address, and whether two rows clash or are the same.
 ghost use mathlib.Core.Path.{_≡_};
 ghost use Prim.Native.Nat.{min, max};
 ghost use Rattle.layout.specs.Fields.{parityOf};
@@ -26,8 +26,8 @@ pub fn is_hit(row: &[u8], n: u32) -> bool
     false
 }
 
-// Whether a row stands over house number n of a street in a place. Its range is asked first: the walk hands on only rows
-// whose streets begin alike, and of one street's rows few have the number.
+// Whether a row stands over house number n of a street in a place. Its range is asked first: a walk passes most rows of other
+// streets at a glance, and of one street's rows few have the number.
 pub fn is_over(row: &[u8], street: &[u8], place: &[u8], n: u32) -> bool
     ensures { λ r. ⌜ r ≡ over (now (row .entry)) (now (street .entry)) (now (place .entry)) n ⌝ }
 {

@@ -217,7 +217,7 @@ pub fn find_same(guide: &[u8], g: &[u8]) -> Sought
     }
 }
 
-// A row stored in a slot.
+// A row stored in a slot that has room for it.
 pub fn write_row(slot: &mut [u8], g: &[u8])
     ensures { λ _. ⌜ now (slot .exit) ≡ rowWritten (now (g .entry)) (now (slot .entry)) ⌝ }
 {

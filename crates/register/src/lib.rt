@@ -72,7 +72,7 @@ pub fn rec(slot: &[u8]) -> &[u8]
 // Where the last eight digits of a number begin.
 const LAST_EIGHT: usize = place::NUMBER_SIZE - 8;
 
-// Whether two numbers are the same. Numbers of one area differ in their last digits: the last eight, a word, are looked at first.
+// Whether two numbers are the same. Numbers of one area differ in their last digits: of ten, the last eight, a word, are looked at first.
 fn is_same_number(a: &[u8], b: &[u8]) -> bool
     ensures { λ r. ⌜ r ≡ sameBytes (now (a .entry)) (now (b .entry)) ⌝ }
 {
@@ -86,7 +86,7 @@ fn is_same_number(a: &[u8], b: &[u8]) -> bool
     text::same(a, b)
 }
 
-// A used slot with this number. The number nearly always decides, and the state byte is then not looked at.
+// A used slot with this number. Where the number differs, as it nearly always does, the state byte is not looked at.
 fn is_of(slot: &[u8], number: &[u8]) -> bool
     ensures { λ r. ⌜ r ≡ isOf (now (number .entry)) (now (slot .entry)) ⌝ }
 {
@@ -214,7 +214,7 @@ pub fn find_entry(register: &[u8], row: &[u8]) -> Sought
     }
 }
 
-// Another state and day in a slot; the record stays.
+// Another state and day in a slot that has room for its head; the record stays.
 pub fn restate(slot: &mut [u8], state: u8, day: Day)
     ensures { λ _. ⌜ now (slot .exit) ≡ restated state day (now (slot .entry)) ⌝ }
 {
@@ -223,7 +223,7 @@ pub fn restate(slot: &mut [u8], state: u8, day: Day)
     text::put(&mut slot[..], 0, &head);
 }
 
-// State, day and record of a slot.
+// State, day and record of a slot, each where it has room for them.
 fn write_slot(slot: &mut [u8], state: u8, day: Day, rec: &[u8])
     ensures { λ _. ⌜ now (slot .exit) ≡ written state day (now (rec .entry)) (now (slot .entry)) ⌝ }
 {

@@ -1,3 +1,4 @@
+-- Where either field has no number the definition says false, as the arm does; where both have, it compares the two.
 use borrow.Author.Needs.{needs}
 use Rattle.cover.proofs.are_equal.Tie as tie
 use Rattle.cover.proofs.are_equal.Statement.{statement}

@@ -1,3 +1,4 @@
+-- Each call promises one side of the conjunction, and both calls are always made.
 use borrow.Author.Needs.{needs}
 use Rattle.cover.proofs.both_allow.Tie as tie
 use Rattle.cover.proofs.both_allow.Statement.{statement}

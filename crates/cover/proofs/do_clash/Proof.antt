@@ -1,3 +1,5 @@
+-- Parities that no number has both of rule a clash out (clash-parity: a shared number's remainder by 2 would be of both). Else the
+-- conjunction is asked from its end: no meeting makes it false (and-false), a meeting leaves the streets (and-true).
 use mathlib.Core.Path.{_∙_, sym}
 use denote.Ref.{now}
 use Rattle.text.proofs.Laws.{and-true, and-false}

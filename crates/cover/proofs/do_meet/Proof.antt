@@ -1,3 +1,6 @@
+-- Four ends, read in another order than in meets: one that is no number makes it false, also under a Low of g that is not read yet
+-- (no-number). Where g ends before h begins no number is in both, whatever the other ends are (meets-not). Else lower and higher
+-- promise the ends of the common range, and meet_from decides of it.
 use mathlib.Core.Path.{_∙_, sym}
 use denote.Ref.{now}
 use Rattle.layout.specs.Fields.{lowOf}

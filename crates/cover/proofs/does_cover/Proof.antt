@@ -1,3 +1,5 @@
+-- The definition's tests in its order: where one fails the conjunction is false, a house field without a number is false by its arm,
+-- and with street and place the same it is is_hit's own promise.
 use borrow.Author.Needs.{needs}
 use Rattle.rules.specs.Covers.{covers}
 use Rattle.cover.proofs.does_cover.Tie as tie

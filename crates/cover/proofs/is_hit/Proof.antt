@@ -1,3 +1,5 @@
+-- The tests come in another order than in hits. A parity that forbids n makes it false whatever the ends are (hits-not), and so does
+-- an n below Low whatever High is (hits-below). With both passed, only n against High is left of the conjunction.
 use mathlib.Core.Path.{_∙_, sym}
 use denote.Ref.{now}
 use borrow.Author.Tests.{le-leb}

@@ -1,3 +1,5 @@
+-- The range is asked first, the definition has it last: without a hit the conjunction is false (and-false twice), with one only
+-- streets and places are left of it (and-true), and those are asked in the definition's order.
 use Rattle.text.proofs.Laws.{and-true, and-false}
 use Rattle.rules.specs.Covers.{over}
 use borrow.Author.Needs.{needs}

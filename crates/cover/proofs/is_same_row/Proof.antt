@@ -1,3 +1,4 @@
+-- Rows of two streets make the conjunction false; of one street the code's four tests, each with its callee's promise, are the rest.
 use borrow.Author.Needs.{needs}
 use Rattle.rules.specs.Covers.{sameRow}
 use Rattle.cover.proofs.is_same_row.Tie as tie

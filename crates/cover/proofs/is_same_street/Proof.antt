@@ -1,3 +1,4 @@
+-- The definition's two tests in its order: streets that differ make the conjunction false, else the places decide.
 use borrow.Author.Needs.{needs}
 use Rattle.rules.specs.Covers.{sameStreet}
 use Rattle.cover.proofs.is_same_street.Tie as tie

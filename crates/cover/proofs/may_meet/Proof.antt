@@ -1,3 +1,4 @@
+-- meet_from's own promise from 0 to 1, with each parity read by its reader.
 use borrow.Author.Needs.{needs}
 use Rattle.cover.proofs.may_meet.Statement.{statement}
 use Rattle.cover.proofs.may_meet.Tie as tie

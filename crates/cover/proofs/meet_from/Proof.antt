@@ -1,3 +1,5 @@
+-- Where high is below n both sides of the disjunction fail. Else the first side is both_allow at n, and where that fails the second
+-- is left: both_allow at n + 1 if n is below high, which also keeps n + 1 from wrapping, and false if it is not.
 use Prim.Native.Nat.{_+_}
 use native.Mathlib.Omega.{arith}
 use borrow.Author.Needs.{needs}

@@ -1,3 +1,6 @@
+-- No row below i covers the record, and n - i falls. Without a house number none does (none-over), so all are passed at once.
+-- Else read-over makes is_over's test of street, place and number the test of the record, and rows that next_on skips are of another
+-- street, where over-not says no: passed-on moves i over them. A hit is passed-hit, the end passed-all.
 use mathlib.Core.Path.{_∙_, sym}
 use Prim.Native.Nat.{_+_, _-_, _/_}
 use native.Mathlib.Omega.{arith}

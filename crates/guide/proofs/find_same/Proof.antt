@@ -1,3 +1,5 @@
+-- No row below i is the same as g, and n - i falls. Rows that next_on skips are of another street, and by row-not not the same, so
+-- passed-on moves i over them; what is left is passed-more after a miss, passed-hit at a hit, passed-all at the end.
 use Prim.Native.Nat.{_+_, _-_, _/_}
 use lib.ListN.{length}
 use denote.Ref.{now}

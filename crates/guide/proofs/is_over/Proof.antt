@@ -1,3 +1,4 @@
+-- A slot without a row makes the conjunction false; of a present one it is left to cover::is_over, asked of the row in the slot.
 use borrow.Author.Needs.{needs}
 use Rattle.guide.proofs.is_over.Tie as tie
 use Rattle.guide.proofs.is_over.Statement.{statement}

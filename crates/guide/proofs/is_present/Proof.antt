@@ -1,3 +1,4 @@
+-- byte_of gives the first byte, 0 of an empty slot; the test for 1 is the definition's.
 use borrow.Author.Needs.{needs}
 use Rattle.rules.specs.Slots.{isPresent}
 use Rattle.guide.proofs.is_present.Tie as tie

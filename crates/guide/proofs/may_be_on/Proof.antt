@@ -1,3 +1,5 @@
+-- Only a false answer promises anything: then the first or the second eight bytes differ, and by eight-not the streets do. Where a
+-- street is shorter than sixteen bytes the answer is true, and nothing is left to show.
 use mathlib.Core.Path.{_∙_, sym, refl}
 use native.Mathlib.Omega.{arith}
 use denote.Ref.{now}

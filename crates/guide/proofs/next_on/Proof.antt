@@ -1,3 +1,5 @@
+-- j lies from i to n, and every row from i to below j is of another street; n - j falls. Where may_be_on says false it promises just
+-- that of row j (elsewhere-more), and at either exit the invariant is the promise.
 use mathlib.Core.Path.{refl}
 use Prim.Native.Nat.{_≤_, _-_}
 use borrow.Author.Needs.{needs}

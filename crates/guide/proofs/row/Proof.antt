@@ -1,3 +1,4 @@
+-- part_of gives the 200 bytes from 8 on, or as many of them as a short slot has, and rowOf is that part.
 use borrow.Author.Needs.{needs}
 use Rattle.rules.specs.Slots.{rowOf}
 use Rattle.guide.proofs.row.Tie as tie

@@ -1,3 +1,4 @@
+-- Two writes, one after the other: the first put lays the eight bytes of rowHead, and the second speaks of the slot as that left it.
 use borrow.Author.Needs.{needs}
 use Rattle.rules.specs.Slots.{rowWritten}
 use Rattle.guide.proofs.write_row.Tie as tie

@@ -1,3 +1,4 @@
+-- byte_of gives the four bytes that slotDay names, 0 where the slot ends before one, and Day::stored promises the day they make.
 use borrow.Author.Needs.{needs}
 use Rattle.rules.specs.Slots.{slotDay}
 use Rattle.register.proofs.day.Tie as tie

@@ -1,3 +1,5 @@
+-- No slot below i is a used one with the number, and n - i falls. A hit is the walk's answer by passed-hit, the end by passed-all;
+-- place-test carries what is_of says of the lent bytes to slot i of the register.
 use Prim.Native.Nat.{_-_, _/_}
 use lib.ListN.{length}
 use denote.Ref.{now}

@@ -1,3 +1,5 @@
+-- No slot below i has rested long enough by today, and n - i falls. A hit is the walk's answer by passed-hit, the end by
+-- passed-all; place-test carries what may_reuse says of the lent bytes to slot i of the register.
 use Prim.Native.Nat.{_-_, _/_}
 use lib.ListN.{length}
 use denote.Ref.{now}

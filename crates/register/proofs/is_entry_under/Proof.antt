@@ -1,3 +1,4 @@
+-- A slot that is not live makes the conjunction false; of a live one it is left to does_cover, asked of the record that rec gives.
 use borrow.Author.Needs.{needs}
 use Rattle.register.proofs.is_entry_under.Tie as tie
 use Rattle.register.proofs.is_entry_under.Statement.{statement}

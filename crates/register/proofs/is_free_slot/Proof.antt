@@ -1,3 +1,4 @@
+-- The state that the slot's reader promises, compared with 0, is the definition's own test.
 use borrow.Author.Needs.{needs}
 use Rattle.register.proofs.is_free_slot.Tie as tie
 use Rattle.register.proofs.is_free_slot.Statement.{statement}

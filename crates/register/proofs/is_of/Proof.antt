@@ -1,3 +1,5 @@
+-- The code asks the number first, the definition the state: another number makes the conjunction false whatever the state is
+-- (and-false), and beside the same number only the state is left of it (and-true).
 use Rattle.text.proofs.Laws.{and-true, and-false}
 use borrow.Author.Needs.{needs}
 use Rattle.register.proofs.is_of.Statement.{statement}

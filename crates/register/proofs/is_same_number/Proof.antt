@@ -1,3 +1,4 @@
+-- Numbers of ten bytes whose last eight differ are not the same, by eight-not; where that test says nothing, text::same decides.
 use mathlib.Core.Path.{_∙_, sym}
 use denote.Ref.{now}
 use Rattle.text.proofs.Laws.{eight-not}

@@ -1,3 +1,4 @@
+-- A slot in another state than resting makes the conjunction false; of a resting one is_past says it, asked of the slot's day.
 use borrow.Author.Needs.{needs}
 use borrow.Author.Tests.{eq-eqb, ne-eqb}
 use Rattle.rules.specs.Records.{isReusable}

@@ -1,3 +1,4 @@
+-- part_of gives the 512 bytes from 8 on, or as many of them as a short slot has, and recordOf is that part.
 use borrow.Author.Needs.{needs}
 use Rattle.rules.specs.Slots.{recordOf}
 use Rattle.register.proofs.rec.Tie as tie

@@ -1,3 +1,4 @@
+-- The head is built byte by byte from the four bytes that day.bytes promises, so what is put at 0 is slotHead; put says the rest.
 use borrow.Author.Needs.{needs}
 use Rattle.rules.specs.Slots.{restated}
 use Rattle.register.proofs.restate.Tie as tie

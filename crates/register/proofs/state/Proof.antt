@@ -1,3 +1,4 @@
+-- byte_of gives the first byte, 0 of an empty slot, and so does stateOf.
 use borrow.Author.Needs.{needs}
 use Rattle.rules.specs.Slots.{stateOf}
 use Rattle.register.proofs.state.Tie as tie

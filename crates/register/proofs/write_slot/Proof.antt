@@ -1,3 +1,4 @@
+-- Two writes, one after the other: restate's promise stands where put's promise speaks of the slot that it was given.
 use borrow.Author.Needs.{needs}
 use Rattle.rules.specs.Slots.{written}
 use Rattle.register.proofs.write_slot.Tie as tie

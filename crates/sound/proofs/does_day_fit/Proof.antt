@@ -1,3 +1,4 @@
+-- Three promises of the calendar, put together by the very operations of dayFits: no case is left.
 use borrow.Author.Needs.{needs}
 use Rattle.rules.specs.Slots.{dayFits}
 use Rattle.sound.proofs.does_day_fit.Tie as tie

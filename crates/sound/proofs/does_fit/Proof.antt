@@ -1,3 +1,4 @@
+-- A fault makes the conjunction false; without one the code and the ESN are left of it, each as its reader promises.
 use borrow.Author.Needs.{needs}
 use borrow.Author.Tests.{eq-eqb, ne-eqb}
 use Rattle.rules.specs.Slots.{fitsSlot}

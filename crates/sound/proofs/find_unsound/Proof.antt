@@ -1,3 +1,5 @@
+-- Every slot below i is sound, and n - i falls. An unsound one is the walk's answer by passed-hit, the end by passed-all; place-test
+-- carries what is_unsound says of the lent bytes to slot i of the register.
 use Prim.Native.Nat.{_-_, _/_}
 use lib.ListN.{length}
 use denote.Ref.{now}

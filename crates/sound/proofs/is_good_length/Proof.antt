@@ -1,3 +1,4 @@
+-- A width above 0 makes quotient and remainder safe; the code's three tests are then the definition's by computing.
 use mathlib.Core.Path.{refl}
 use borrow.Author.Needs.{needs}
 use Rattle.rules.specs.Slots.{goodLength}

@@ -1,3 +1,4 @@
+-- A bad length makes the conjunction false. Else the walk over the rows decides: an unsound one, or nothing, and then all are sound.
 use mathlib.Core.Path.{ap}
 use borrow.Author.Needs.{needs}
 use Rattle.rules.specs.declared.Sought.{Sought}

@@ -1,3 +1,4 @@
+-- The tests stand in the order of presentSound: where one fails the conjunction is false, and the last is the letter of the row.
 use borrow.Author.Needs.{needs}
 use borrow.Author.Tests.{eq-eqb, ne-eqb}
 use Rattle.rules.specs.Slots.{presentSound, isZero}

@@ -1,3 +1,4 @@
+-- A bad length makes the conjunction false. Else the walk decides: it found an unsound slot, or nothing, and then all are sound.
 use mathlib.Core.Path.{ap}
 use borrow.Author.Needs.{needs}
 use Rattle.rules.specs.declared.Sought.{Sought}

@@ -1,3 +1,4 @@
+-- Both sides split on vacant: a vacant slot is unsound unless all its bytes are 0, another unless is_present_sound says it is sound.
 use borrow.Author.Needs.{needs}
 use Rattle.rules.specs.Slots.{rowSlotSound, isZero}
 use Rattle.sound.proofs.is_row_unsound.Tie as tie

@@ -1,3 +1,4 @@
+-- Both sides split on state 0: a free slot is unsound unless all its bytes are 0, another unless is_used_sound says it is sound.
 use borrow.Author.Needs.{needs}
 use borrow.Author.Tests.{eq-eqb, ne-eqb}
 use Rattle.rules.specs.Slots.{slotSound, isZero}

@@ -1,3 +1,5 @@
+-- The tests stand in the order of usedSound: where one fails the conjunction is false, a date field without a day is false by its
+-- arm, and the last test is does_day_fit's own promise.
 use borrow.Author.Needs.{needs}
 use Rattle.rules.specs.Slots.{usedSound, isZero}
 use Rattle.sound.proofs.is_used_sound.Tie as tie
