@@ -8,8 +8,6 @@ ghost use Rattle.rules.specs.Takes.{after, answersTo, zerosIn};
 use crate::checks;
 use layout::frame::Header;
 use rules::Kind;
-use steps::data;
-use steps::row;
 
 // Answer byte i is written for record i; how many answers are 0.
 pub fn apply_records(
@@ -28,7 +26,7 @@ pub fn apply_records(
     let mut done: u32 = 0;
     let mut i: usize = 0;
     while i < n {
-        let answer = data::apply_record(
+        let answer = data_step::apply_record(
             &mut register[..],
             guide,
             h,
@@ -60,7 +58,7 @@ pub fn apply_rows(
     let mut done: u32 = 0;
     let mut i: usize = 0;
     while i < n {
-        let answer = row::apply_row(
+        let answer = row_step::apply_row(
             register,
             &mut guide[..],
             h,

@@ -1,6 +1,6 @@
 -- Up to the last slot k * SLOT does not wrap, and row promises the row of the part that part_of gives; above it the slot begins
 -- behind the last byte, where by part-none there is nothing, and so no row in it.
-use mathlib.Core.Path.{_∙_, ap, sym}
+use mathlib.Core.Path.{_∙_, ap}
 use Prim.Native.Nat.{_*_}
 use native.Mathlib.Omega.{arith}
 use borrow.Author.Needs.{needs}

@@ -1,7 +1,6 @@
 -- What write_slot promises holds of the bare record: it is what is shown where the record has an ESN. Else filled-in carries the ESN
 -- that came back in the record's part to the whole slot, and not-filled says that a record too long for the slot changes nothing.
 use mathlib.Core.Path.{_∙_, sym}
-use native.Mathlib.Omega.{arith}
 use denote.Ref.{now}
 use borrow.Author.Needs.{needs}
 use borrow.Author.Tests.{leb-true}
