@@ -1,4 +1,4 @@
--- What the definition of the desk keeps: input in parts, the stores of a run of files, and how much a desk holds.
+-- What the definition of the desk keeps: input in parts, the run of its own files, and how much a desk holds.
 -- Assumes nothing.
 use mathlib.Core.Path.{_≡_, _∙_, refl, sym, ap}
 use mathlib.Core.Bool.{Bool, true, false, cond}
@@ -8,12 +8,13 @@ use native.Mathlib.Omega.{arith}
 use lib.Dec.{leb, eqb}
 use lib.ListN.{length, drop, getD, length-append, replicate}
 use borrow.Author.Tests.{leb-true, leb-false}
-use Rattle.rules.specs.declared.Kind.the-variants.{Data, Guide}
-use Rattle.rules.specs.Takes.{Stores, taken}
-use Rattle.rules.specs.Demands.{File, Office, start, taking, run}
+use Rattle.rules.specs.Demands.{File, start, run}
+use Rattle.rules.proofs.Keep.{demand3}
 use Rattle.desk_rules.specs.Hex.{bytesIn}
 use Rattle.desk_rules.specs.Desk.{Desk, Reply, emptyDesk, mostCollected, mostTyped, mostLines, mostAnswers, collecting, takingGuide, takingData, looking, framed, isReadable, lineRead, nextLine, lineEnded, typed, hasStopped, fed, ended, fedAll}
-use Rattle.desk_rules.specs.Kept.{FeedBoth, IsRun}
+use Rattle.desk_rules.specs.Files.{endFiles, filesOf, filesEnded}
+use Rattle.desk_rules.specs.Kept.{FeedBoth, IsRun, Demanded}
+use Rattle.desk_rules.proofs.FileLaws.{ended-takes, run-both, takes-run, fed-run, run-done}
 
 -- ---- input in parts
 
@@ -47,84 +48,33 @@ unfolding lineEnded lineRead
 on-line P d p f =
     on-test P (isReadable (d .line)) _ _ (f (getD (bytesIn (d .line)) 0 0) (drop 1 (bytesIn (d .line)))) p
 
--- ---- the stores of a run of files
-
-run-both : (a b : List File) (o : Office) → run (a ++ b) o ≡ run b (run a o)
-unfolding run
-run-both [] b o = refl
-run-both (f ∷ a) b o = run-both a b (taking f o)
-
--- d has the stores of o after some files
-Ran : Office → Desk → Type 0
-Ran o d = (files : List File) × (d .stores ≡ run files o .stores)
-
-ran-none : (o : Office) (d : Desk) → d .stores ≡ o .stores → Ran o d
-unfolding Ran run
-ran-none o d e = ([], e)
-
-ran-collect : (o : Office) (d : Desk) (bytes : List ℕ) → d .stores ≡ o .stores → Ran o (collecting d bytes .desk)
-unfolding collecting
-ran-collect o d bytes e =
-    on-test (Ran o) (leb (length (d .collection) + length bytes) mostCollected) _ _ (ran-none o _ e) (ran-none o d e)
-
-ran-guide : (o : Office) (d : Desk) → d .stores ≡ o .stores → Ran o (takingGuide d .desk)
-unfolding Ran takingGuide taking run
-ran-guide o d e = (
-  record { kind = Guide; bytes = d .collection; answers = replicate mostAnswers 0; last = d .guideLast } ∷ [],
-  ap (λ (s : Stores). taken Guide s (d .collection) (replicate mostAnswers 0) (d .guideLast) .stores) e,
-)
-
-ran-data : (o : Office) (d : Desk) → d .stores ≡ o .stores → Ran o (takingData d .desk)
-unfolding Ran takingData taking run
-ran-data o d e = (
-  record { kind = Data; bytes = d .collection; answers = replicate mostAnswers 0; last = d .dataLast } ∷ [],
-  ap (λ (s : Stores). taken Data s (d .collection) (replicate mostAnswers 0) (d .dataLast) .stores) e,
-)
-
-ran-line : (o : Office) (d : Desk) → d .stores ≡ o .stores → Ran o (lineEnded d .desk)
-unfolding nextLine
-ran-line o d e =
-    on-line (Ran o) d (ran-none o (nextLine d) e) (λ code bytes.
-    on-framed (Ran o) (nextLine d) code bytes (ran-none o (nextLine d) e) (ran-collect o (nextLine d) bytes e)
-    (ran-guide o (nextLine d) e) (ran-data o (nextLine d) e))
-
-ran-fed : (o : Office) (d : Desk) (x : ℕ) → d .stores ≡ o .stores → Ran o (fed d x .desk)
-unfolding fed typed
-ran-fed o d x e =
-    on-test (Ran o) (hasStopped d) _ _ (ran-none o d e) (on-test (Ran o) (eqb x 10) _ _ (ran-line o d e) (ran-none o (typed d x) e))
-
-ran-ended : (o : Office) (d : Desk) → d .stores ≡ o .stores → Ran o (ended d .desk)
-unfolding ended
-ran-ended o d e =
-    on-test (Ran o) (hasStopped d) _ _ (ran-none o d e)
-    (on-test (Ran o) (eqb (length (d .line)) 0) _ _ (ran-none o d e) (ran-line o d e))
-
--- files, and then those of the rest
-ran-both : (o : Office) (d c : Desk) (r : Ran o d) → ((p : Office) → d .stores ≡ p .stores → Ran p c) → Ran o c
-unfolding Ran
-ran-both o d c r f =
-    let s = f (run (r .0) o) (r .1) in
-    (r .0 ++ s .0, s .1 ∙ sym (ap (λ (p : Office). p .stores) (run-both (r .0) (s .0) o)))
-
-ran-all : (s : List ℕ) (o : Office) (d : Desk) → d .stores ≡ o .stores → Ran o (fedAll d s .desk)
-unfolding fedAll
-ran-all [] o d e = ran-none o d e
-ran-all (x ∷ s) o d e = ran-both o (fed d x .desk) (fedAll (fed d x .desk) s .desk) (ran-fed o d x e) (λ p f. ran-all s p (fed d x .desk) f)
+-- ---- the desk's own files
 
 begin : emptyDesk .stores ≡ start 64 64 .stores
 unfolding emptyDesk start
 begin = refl
 
--- after any input, and after its end
-pub desk-run : (input : List ℕ) → IsRun (fedAll emptyDesk input .desk)
-unfolding Ran
-desk-run input = ran-all input (start 64 64) emptyDesk begin
+-- a run from the empty desk
+from-empty : (d : Desk) (files : List File) → d .stores ≡ run files (start 64 64) .stores → IsRun d files
+unfolding emptyDesk start
+from-empty d files e = record { stores = e; history = run-done files (start 64 64) }
 
-pub desk-run-ended : (input : List ℕ) → IsRun (ended (fedAll emptyDesk input .desk) .desk)
-unfolding Ran
+-- after any input, and after its end
+pub desk-run : (input : List ℕ) → IsRun (fedAll emptyDesk input .desk) (filesOf input)
+desk-run input = from-empty (fedAll emptyDesk input .desk) (filesOf input) (fed-run input (start 64 64) emptyDesk begin)
+
+pub desk-run-ended : (input : List ℕ) → IsRun (ended (fedAll emptyDesk input .desk) .desk) (filesEnded input)
 desk-run-ended input =
-    ran-both (start 64 64) (fedAll emptyDesk input .desk) (ended (fedAll emptyDesk input .desk) .desk) (desk-run input)
-    (λ p e. ran-ended p (fedAll emptyDesk input .desk) e)
+    let d : Desk = fedAll emptyDesk input .desk in
+    from-empty (ended d .desk) (filesEnded input)
+    (rw (run-both (filesOf input) (endFiles d) (start 64 64))
+    (takes-run (run (filesOf input) (start 64 64)) (ended-takes d) (desk-run input .stores)))
+
+pub desk-demand : (input : List ℕ) → Demanded (fedAll emptyDesk input .desk) (filesOf input)
+desk-demand input = (desk-run input, demand3 64 64 (filesOf input))
+
+pub desk-demand-ended : (input : List ℕ) → Demanded (ended (fedAll emptyDesk input .desk) .desk) (filesEnded input)
+desk-demand-ended input = (desk-run-ended input, demand3 64 64 (filesEnded input))
 
 -- ---- how much a desk holds
 

@@ -3,6 +3,7 @@ pub mod HexLaws
 pub mod SayLaws
 pub mod TakenLaws
 pub mod DeskLaws
+pub mod FileLaws
 pub mod KeptLaws
 pub mod Programs
 pub mod Witness

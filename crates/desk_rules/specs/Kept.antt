@@ -1,15 +1,18 @@
--- What the definition of the desk keeps, as statements. They are proved in `proofs/`, for all inputs: `KeptLaws` has feed-both,
--- desk-run and desk-run-ended; `Programs` has fed-stays, ended-stays, program-writes and one-served; `Witness` computes the
--- description's example. Assumes nothing.
+-- What the definition of the desk keeps, as statements. They are proved in `proofs/`, for all inputs: `FileLaws` has fed-takes and
+-- ended-takes; `KeptLaws` has feed-both, and of the desk after an input and its files (`filesOf`, at its end `filesEnded`) desk-run,
+-- desk-run-ended, desk-demand and desk-demand-ended; `Programs` has fed-stays, ended-stays, program-writes and one-served; `Witness`
+-- computes the description's example. Assumes nothing.
 use Prim.Native.Nat.{ℕ, _+_, _≤_}
 use mathlib.Core.Path.{_≡_}
 use mathlib.Core.Bool.{true}
 use mathlib.Core.List.{List, [], _∷_, _++_}
 use lib.ListN.{length, take}
-use Rattle.rules.specs.Demands.{File, start, run}
+use Rattle.rules.specs.Takes.{Stores}
+use Rattle.rules.specs.Demands.{File, start, run, Demand3}
 use Rattle.desk_rules.specs.declared.Marks.{Marks}
 use Rattle.desk_rules.specs.declared.Fed.{Fed}
-use Rattle.desk_rules.specs.Desk.{Desk, Reply, emptyDesk, mostCollected, mostTyped, fed, ended, fedAll, written}
+use Rattle.desk_rules.specs.Desk.{Desk, Reply, emptyDesk, mostCollected, mostTyped, takeSaid, fed, ended, fedAll, written}
+use Rattle.desk_rules.specs.Files.{outcome, doneIn}
 use Rattle.desk_rules.specs.Served.{Bench, benchOf, mostSaid, isReady, deskOf, marksOf, Served, served, Serves}
 
 -- ---- the desk
@@ -20,9 +23,21 @@ FeedBoth d a b =
     (fedAll d (a ++ b) .desk ≡ fedAll (fedAll d a .desk) b .desk)
     × (fedAll d (a ++ b) .said ≡ fedAll d a .said ++ fedAll (fedAll d a .desk) b .said)
 
--- "on 64 empty slots of each kind": the stores are those after a run of files, so the brief's third demand holds of them
-abbrev pub IsRun : Desk → Type 0
-IsRun d = (files : List File) × (d .stores ≡ run files (start 64 64) .stores)
+-- what a byte of input, or its end, does on these stores: it leaves them; or it takes a file, and says what came of that
+pub data Takes (s : Stores) (r : Reply) : List File → Type 0 where
+  none : r .desk .stores ≡ s → Takes s r []
+  one : (f : File) → r .desk .stores ≡ outcome f s .stores → r .said ≡ takeSaid (outcome f s .result) (outcome f s .answers)
+      → Takes s r (f ∷ [])
+
+-- "on 64 empty slots of each kind": the desk's stores are those that its own files leave, and the history of these files is what the
+-- desk answered 0
+pub record IsRun (d : Desk) (files : List File) : Type 0 where
+  pub stores : d .stores ≡ run files (start 64 64) .stores
+  pub history : run files (start 64 64) .history ≡ doneIn files (emptyDesk .stores) []
+
+-- so the brief's third demand holds of the desk's stores and its own history
+abbrev pub Demanded : Desk → List File → Type 0
+Demanded d files = IsRun d files × Demand3 64 64 (run files (start 64 64))
 
 -- ---- the program, which lends the bytes and writes what is said
 

@@ -1,4 +1,5 @@
 pub mod Hex
 pub mod Desk
 pub mod Served
+pub mod Files
 pub mod Kept
