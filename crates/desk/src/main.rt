@@ -5,8 +5,6 @@ ghost use Rattle.desk.specs.Standing.{Stands};
 use desk_lines::desk;
 use desk_rules::Marks;
 
-const MOST_LINES: u32 = 65535;
-
 // What a read leaves, and whether there is more to read.
 struct Turn {
     marks: Marks,
@@ -74,7 +72,7 @@ fn feed_some(
         &mut out[..],
         &input[..n],
     );
-    let more = (0 < n) & (marks.lines < MOST_LINES);
+    let more = (0 < n) & !desk::has_stopped(marks);
     Turn { marks, more }
 }
 
@@ -107,11 +105,11 @@ fn feed_input(
 }
 
 fn main() {
-    let mut register = [0u8; 33280];
-    let mut guide = [0u8; 13312];
-    let mut collection = [0u8; 65424];
-    let mut line = [0u8; 2051];
-    let mut out = [0u8; 2936];
+    let mut register = [0u8; desk::REGISTER_SIZE];
+    let mut guide = [0u8; desk::GUIDE_SIZE];
+    let mut collection = [0u8; desk::COLLECTION_SIZE];
+    let mut line = [0u8; desk::LINE_SIZE];
+    let mut out = [0u8; desk::OUT_SIZE];
     let marks = feed_input(
         &mut register,
         &mut guide,

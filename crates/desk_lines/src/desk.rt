@@ -5,10 +5,9 @@ ghost use mathlib.Core.List.{List};
 ghost use Prim.Native.Nat.{ℕ, _+_, _≤_, _<_};
 ghost use lib.ListN.{length, drop, getD};
 ghost use Rattle.desk_rules.specs.Hex.{bytesIn};
-ghost use Rattle.desk_rules.specs.Desk.{emptyDesk, mostCollected, mostTyped, mostLines, silent, framed, isReadable, lineEnded, typed, fed, ended};
+ghost use Rattle.desk_rules.specs.Desk.{emptyDesk, mostCollected, mostTyped, mostLines, silent, framed, isReadable, lineEnded, typed, stopsAfter, fed, ended};
 ghost use Rattle.desk_rules.specs.Served.{benchOf, mostSaid, hasRoom, marksOf, Serves, Laid, Lays};
 use crate::frames;
-use crate::hex;
 use desk_rules::Fed;
 use desk_rules::Marks;
 
@@ -16,9 +15,22 @@ const MOST_LINES: u32 = 65535;
 
 const MOST_TYPED: usize = 2050;
 
-const MOST_SAID: usize = 2936;
+// So many bytes has a line of so many characters.
+const MOST_BYTES: usize = MOST_TYPED / 2;
 
-const MOST_BYTES: usize = 1025;
+// The desk program has 64 slots of each kind.
+const SLOTS: usize = 64;
+
+pub const REGISTER_SIZE: usize = SLOTS * register::SLOT;
+
+pub const GUIDE_SIZE: usize = SLOTS * guide::SLOT;
+
+// What must be lent: room for the collection, for a line and one character more, and for the longest reply.
+pub const COLLECTION_SIZE: usize = frames::MOST_COLLECTED;
+
+pub const LINE_SIZE: usize = MOST_TYPED + 1;
+
+pub const OUT_SIZE: usize = 2936;
 
 // The marks of an empty desk.
 pub fn empty() -> Marks
@@ -33,13 +45,19 @@ pub fn empty() -> Marks
     }
 }
 
+// Whether the last line has ended that is answered.
+pub fn has_stopped(m: Marks) -> bool
+    ensures { λ r. ⌜ r ≡ stopsAfter (m .lines) ⌝ }
+{
+    MOST_LINES <= m.lines
+}
+
 // There is room for all that a desk may hold and say, and the marks lie within it.
 fn is_ready(m: Marks, collection: usize, line: usize, out: usize) -> bool
     ensures { λ r. ⌜ r ≡ hasRoom m collection line out ⌝ }
 {
-    ((frames::MOST_COLLECTED <= collection) & ((MOST_TYPED + 1 <= line) & (MOST_SAID <= out)))
-        & ((m.collected <= frames::MOST_COLLECTED)
-            & ((m.typed <= MOST_TYPED + 1) & (m.lines <= MOST_LINES)))
+    ((COLLECTION_SIZE <= collection) & ((LINE_SIZE <= line) & (OUT_SIZE <= out)))
+        & ((m.collected <= COLLECTION_SIZE) & ((m.typed <= LINE_SIZE) & (m.lines <= MOST_LINES)))
 }
 
 fn is_readable(line: &[u8]) -> bool
@@ -154,7 +172,7 @@ fn feed_ready(
         (benchOf (now (register .entry)) (now (guide .entry)) (now (collection .entry)) (now (line .entry)) (now (out .entry))) r
         (benchOf (now (register .exit)) (now (guide .exit)) (now (collection .exit)) (now (line .exit)) (now (out .exit))) ⌝ }
 {
-    if MOST_LINES <= m.lines {
+    if has_stopped(m) {
         return Fed { marks: m, said: 0 };
     }
     if b == b'\n' {
@@ -212,7 +230,7 @@ fn finish_ready(
         (benchOf (now (register .entry)) (now (guide .entry)) (now (collection .entry)) (now (line .entry)) (now (out .entry))) r
         (benchOf (now (register .exit)) (now (guide .exit)) (now (collection .exit)) (now (line .entry)) (now (out .exit))) ⌝ }
 {
-    if MOST_LINES <= m.lines {
+    if has_stopped(m) {
         return Fed { marks: m, said: 0 };
     }
     if m.typed == 0 {

@@ -5,7 +5,6 @@ ghost use lib.ListN.{length};
 ghost use Rattle.desk_rules.specs.Hex.{lineOf};
 ghost use Rattle.desk_rules.specs.Desk.{mostAnswers, unreadSaid, answersSaid, countsSaid, refusalSaid, takeSaid, lookSaid};
 ghost use Rattle.desk_rules.specs.Served.{Writes, mostSaid};
-use crate::hex;
 use rules::Seen;
 use rules::Taken;
 

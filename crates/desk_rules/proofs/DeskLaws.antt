@@ -1,6 +1,6 @@
 -- The desk in the lent bytes: what readiness gives, and what each step of the code leaves is the definition's reply, laid out.
 -- Assumes nothing.
-use mathlib.Core.Path.{_≡_, refl, sym}
+use mathlib.Core.Path.{_≡_, _∙_, refl, sym}
 use mathlib.Core.Logic.{_≢_}
 use mathlib.Core.Bool.{Bool, true, false, _&&_, cond}
 use mathlib.Core.List.{List, _++_, append-nil, append-assoc}
@@ -11,7 +11,7 @@ use native.Mathlib.Decide.{decLe}
 use lib.Dec.{leb, eqb}
 use lib.ListN.{length, take, drop, getD, set, length-append, take-append-drop, replicate}
 use lib.Seq.{length-take-le, take-all, drop-length, append-snoc, set-split}
-use borrow.Author.Tests.{leb-true, le-leb, lt-leb, eq-eqb, ne-eqb}
+use borrow.Author.Tests.{leb-true, leb-false, le-leb, lt-leb, eq-eqb, ne-eqb}
 use Rattle.text.specs.Text.{putAt}
 use Rattle.text.proofs.Laws.{and-left, and-right}
 use Rattle.rules.specs.declared.Taken.{Taken}
@@ -19,7 +19,7 @@ use Rattle.rules.specs.Takes.{TakesData, TakesGuide}
 use Rattle.desk_rules.proofs.TakenLaws.{guide-register, data-guide}
 use Rattle.desk_rules.specs.declared.Marks.{Marks}
 use Rattle.desk_rules.specs.Hex.{bytesIn}
-use Rattle.desk_rules.specs.Desk.{Desk, Reply, mostCollected, mostTyped, mostLines, mostAnswers, silent, unread, isReadable, lineRead, nextLine, lineEnded, typed, fed, ended, takeSaid, collecting, takingGuide, takingData, looking, framed}
+use Rattle.desk_rules.specs.Desk.{Desk, Reply, mostCollected, mostTyped, mostLines, mostAnswers, silent, unread, isReadable, lineRead, nextLine, lineEnded, typed, stopsAfter, fed, ended, takeSaid, collecting, takingGuide, takingData, looking, framed}
 use Rattle.desk_rules.specs.Served.{Bench, benchOf, mostSaid, hasRoom, isReady, deskOf, marksOf, over, laidOut, served, unserved, Holds, Laid, Writes}
 
 -- ---- room
@@ -211,31 +211,35 @@ module _ (m : Marks) (R G C l out : List ℕ) {v : Bool} (e : v ≡ isReadable (
 
 -- ---- a byte, and the end
 
-module _ (m : Marks) (R G C l out : List ℕ) where
-  pub fed-stopped : (b : ℕ) → mostLines ≤ m .lines → fed (deskOf m (benchOf R G C l out)) b ≡ silent (deskOf m (benchOf R G C l out))
-  unfolding fed deskOf
-  fed-stopped b h = rw (le-leb mostLines (m .lines) h)
+-- v is whether the desk has stopped
+pub goes-on : (lines : ℕ) {v : Bool} → v ≡ stopsAfter lines → v ≡ false → lines < mostLines
+goes-on lines e f = leb-false mostLines lines (sym e ∙ f)
 
-  pub fed-newline : (b : ℕ) → m .lines < mostLines → b ≡ 10 → fed (deskOf m (benchOf R G C l out)) b ≡ lineEnded (deskOf m (benchOf R G C l out))
+module _ (m : Marks) (R G C l out : List ℕ) {v : Bool} (e : v ≡ stopsAfter (m .lines)) where
+  pub fed-stopped : (b : ℕ) → v ≡ true → fed (deskOf m (benchOf R G C l out)) b ≡ silent (deskOf m (benchOf R G C l out))
   unfolding fed deskOf
-  fed-newline b h e = rw (lt-leb mostLines (m .lines) h, eq-eqb b 10 e)
+  fed-stopped b t = rw (← e, t)
 
-  pub fed-typed : (b : ℕ) → m .lines < mostLines → b ≢ 10 → fed (deskOf m (benchOf R G C l out)) b ≡ silent (typed (deskOf m (benchOf R G C l out)) b)
+  pub fed-newline : (b : ℕ) → v ≡ false → b ≡ 10 → fed (deskOf m (benchOf R G C l out)) b ≡ lineEnded (deskOf m (benchOf R G C l out))
   unfolding fed deskOf
-  fed-typed b h n = rw (lt-leb mostLines (m .lines) h, ne-eqb b 10 n)
+  fed-newline b f n = rw (← e, f, eq-eqb b 10 n)
 
-  pub ended-stopped : mostLines ≤ m .lines → ended (deskOf m (benchOf R G C l out)) ≡ silent (deskOf m (benchOf R G C l out))
+  pub fed-typed : (b : ℕ) → v ≡ false → b ≢ 10 → fed (deskOf m (benchOf R G C l out)) b ≡ silent (typed (deskOf m (benchOf R G C l out)) b)
+  unfolding fed deskOf
+  fed-typed b f n = rw (← e, f, ne-eqb b 10 n)
+
+  pub ended-stopped : v ≡ true → ended (deskOf m (benchOf R G C l out)) ≡ silent (deskOf m (benchOf R G C l out))
   unfolding ended deskOf
-  ended-stopped h = rw (le-leb mostLines (m .lines) h)
+  ended-stopped t = rw (← e, t)
 
-  pub ended-empty : m .lines < mostLines → m .typed ≡ 0 → ended (deskOf m (benchOf R G C l out)) ≡ silent (deskOf m (benchOf R G C l out))
+  pub ended-empty : v ≡ false → m .typed ≡ 0 → ended (deskOf m (benchOf R G C l out)) ≡ silent (deskOf m (benchOf R G C l out))
   unfolding ended deskOf
-  ended-empty h z = rw (lt-leb mostLines (m .lines) h, z)
+  ended-empty f z = rw (← e, f, z)
 
-  pub ended-line : isReady m (benchOf R G C l out) ≡ true → m .lines < mostLines → m .typed ≢ 0
+  pub ended-line : isReady m (benchOf R G C l out) ≡ true → v ≡ false → m .typed ≢ 0
       → ended (deskOf m (benchOf R G C l out)) ≡ lineEnded (deskOf m (benchOf R G C l out))
   unfolding ended deskOf
-  ended-line ready h n = rw (lt-leb mostLines (m .lines) h, typed-is m R G C l out ready, ne-eqb (m .typed) 0 n)
+  ended-line ready f n = rw (← e, f, typed-is m R G C l out ready, ne-eqb (m .typed) 0 n)
 
 -- ---- what is served
 

@@ -1,6 +1,7 @@
 -- Hexadecimal: what a loop over the pairs of a line cites, and where each byte of a line stands.
 -- Assumes nothing.
 use mathlib.Core.Path.{_≡_, _∙_, refl, sym}
+use mathlib.Core.Logic.{_≢_}
 use mathlib.Core.Bool.{Bool, true, false, _&&_}
 use mathlib.Core.List.{List, [], _∷_, _++_}
 use Prim.Native.Nat.{ℕ, zero, suc, _+_, _*_, _/_, _%_, _≤_, _<_}
@@ -13,7 +14,7 @@ use Rattle.text.specs.Text.{inRange}
 use Rattle.text.proofs.Laws.{and-left, and-right, turn, ended}
 use Rattle.desk_rules.specs.Desk.{mostTyped, isReadable}
 use Rattle.desk_rules.proofs.OverLaws.{front-length, front-more, front-all}
-use Rattle.desk_rules.specs.Hex.{isHexDigit, hexValue, isHex, bytesIn, hexDigit, lineOf}
+use Rattle.desk_rules.specs.Hex.{isHexDigit, hexValue, isHex, bytesIn, hexDigit, lineOf, decoded, encoded}
 
 -- ---- a digit
 
@@ -132,3 +133,23 @@ module _ (frame old : List ℕ) (room : length old ≡ 2 * length frame + 1) (i 
       (rw e
       (front-more (lineOf frame) old (2 * i) inv 10 (omega arith) (omega arith) (rw (← e) (sym (line-last frame)))))
       (omega arith) (omega arith)
+
+-- ---- room of the right length, and of another
+
+module _ (line bytes : List ℕ) where
+  pub decoded-is : length bytes ≡ length line / 2 → decoded line bytes ≡ bytesIn line
+  unfolding decoded
+  decoded-is e = rw (eq-eqb (length bytes) (length line / 2) e)
+
+  pub decoded-not : length bytes ≢ length line / 2 → decoded line bytes ≡ bytes
+  unfolding decoded
+  decoded-not n = rw (ne-eqb (length bytes) (length line / 2) n)
+
+module _ (frame line : List ℕ) where
+  pub encoded-is : length line ≡ 2 * length frame + 1 → encoded frame line ≡ lineOf frame
+  unfolding encoded
+  encoded-is e = rw (eq-eqb (length line) (2 * length frame + 1) e)
+
+  pub encoded-not : length line ≢ 2 * length frame + 1 → encoded frame line ≡ line
+  unfolding encoded
+  encoded-not n = rw (ne-eqb (length line) (2 * length frame + 1) n)

@@ -36,7 +36,7 @@ emptyDesk =
       lines = 0;
     }
 
--- "The collection (at most 65424 bytes)"; "over 2050 characters before the newline"; "It stops after 65535 lines"
+-- "The collection (at most 65424 bytes)"; "over 2050 characters before the newline"; 65535 lines
 abbrev pub mostCollected : ℕ
 mostCollected = 65424
 
@@ -191,8 +191,12 @@ typed d b =
 
 -- ---- input
 
+-- "It stops after 65535 lines"
+abbrev pub stopsAfter : ℕ → Bool
+stopsAfter lines = leb mostLines lines
+
 abbrev pub hasStopped : Desk → Bool
-hasStopped d = leb mostLines (d .lines)
+hasStopped d = stopsAfter (d .lines)
 
 -- a byte of input
 unfoldable pub fed : Desk → ℕ → Reply

@@ -3,7 +3,8 @@
 use Prim.Native.Nat.{ℕ, _+_, _*_, _-_, _/_, _%_}
 use mathlib.Core.List.{List, [], _∷_, _++_}
 use mathlib.Core.Bool.{Bool, true, false, _&&_, _||_, cond}
-use lib.Dec.{ltb}
+use lib.Dec.{ltb, eqb}
+use lib.ListN.{length}
 use Rattle.text.specs.Text.{inRange}
 
 -- "Hexadecimal letters are read in either case"
@@ -36,6 +37,13 @@ hexOf (b ∷ s) = hexDigit (b / 16) ∷ hexDigit (b % 16) ∷ hexOf s
 -- one frame a line
 unfoldable pub lineOf : List ℕ → List ℕ
 lineOf frame = hexOf frame ++ (10 ∷ [])
+
+-- what reading a line leaves in room for its bytes, and writing a frame in room for its line; room of another length stays as it was
+unfoldable pub decoded : List ℕ → List ℕ → List ℕ
+decoded line bytes = cond (eqb (length bytes) (length line / 2)) (bytesIn line) bytes
+
+unfoldable pub encoded : List ℕ → List ℕ → List ℕ
+encoded frame line = cond (eqb (length line) (2 * length frame + 1)) (lineOf frame) line
 
 -- a number as two bytes, the high one first
 abbrev pub two : ℕ → List ℕ

@@ -3,9 +3,12 @@ use mathlib.Core.List.{[]}
 use lib.ListN.{length}
 use denote.Ref.{now}
 use borrow.Author.Needs.{needs}
-use Rattle.desk_rules.proofs.DeskLaws.{room, said-laid, fed-stopped, fed-newline, fed-typed}
+use Rattle.desk_rules.proofs.DeskLaws.{room, said-laid, goes-on, fed-stopped, fed-newline, fed-typed}
 use Rattle.desk_lines.proofs.desk.feed_ready.Tie as tie
 use Rattle.desk_lines.proofs.desk.feed_ready.Statement.{statement}
+
+has-stopped-requires : tie.Need-has-stopped-requires
+has-stopped-requires c κs = search needs
 
 returns : tie.Need-returns
 returns c =
@@ -16,11 +19,15 @@ returns c =
     let collection = at-start .args .collection .now in
     let line = at-start .args .line .now in
     let out = at-start .args .out .now in
-    rw (fed-stopped m register guide collection line out (at-start .args .b) (c .if1 .taken))
+    rw (fed-stopped m register guide collection line out (c .before .has-stopped .ensures) (at-start .args .b) (c .if1 .taken))
     (said-laid m register guide collection line out (at-start .pre) [] out 0 (refl, refl))
 
 end-line-requires : tie.Need-end-line-requires
-end-line-requires c κs = search needs
+end-line-requires c κs =
+    let at-if1 = c .before .before .before .before .before .before in
+    let has-stopped = at-if1 .before .has-stopped in
+    let at-start = at-if1 .before .before .before .before .before .before .before in
+    (at-start .pre, goes-on (at-start .args .m .lines) (has-stopped .ensures) (at-if1 .if1 .left))
 
 same-length : tie.Need-same-length
 same-length c = search needs
@@ -42,9 +49,10 @@ returns-2 c =
     let at-end-line = c .before .before .before .before .before .before .before .before in
     let at-if2 = at-end-line .before .before .before .before .before .before in
     let if1 = at-if2 .before .if1 in
+    let has-stopped = at-if2 .before .before .has-stopped in
     let at-start = at-if2 .before .before .before .before .before .before .before .before .args in
     rw (fed-newline (at-start .m) (at-start .register .now) (at-start .guide .now) (at-start .collection .now) (at-start .line .now)
-    (at-start .out .now) (at-start .b) (if1 .left) (at-if2 .if2 .taken)) (at-end-line .end-line .ensures)
+    (at-start .out .now) (has-stopped .ensures) (at-start .b) (if1 .left) (at-if2 .if2 .taken)) (at-end-line .end-line .ensures)
 
 type-byte-requires : tie.Need-type-byte-requires
 type-byte-requires c κs =
@@ -60,18 +68,20 @@ returns-3 c =
     let type-byte = c .before .before .type-byte in
     let at-if2 = c .before .before .before .before in
     let if1 = at-if2 .before .if1 in
+    let has-stopped = at-if2 .before .before .has-stopped in
     let at-start = at-if2 .before .before .before .before .before .before .before .before in
     let register = at-start .args .register .now in
     let guide = at-start .args .guide .now in
     let collection = at-start .args .collection .now in
     let out = at-start .args .out .now in
-    rw (fed-typed (at-start .args .m) register guide collection (at-start .args .line .now) out (at-start .args .b) (if1 .left)
-    (at-if2 .if2 .left)) (type-byte .ensures register guide collection out (at-start .pre))
+    rw (fed-typed (at-start .args .m) register guide collection (at-start .args .line .now) out (has-stopped .ensures) (at-start .args .b)
+    (if1 .left) (at-if2 .if2 .left)) (type-byte .ensures register guide collection out (at-start .pre))
 
 pub feed-ready-spec : {M : Type 1} → statement M
 feed-ready-spec =
     tie.close
     (tie.spec
+    has-stopped-requires
     returns
     end-line-requires
     same-length

@@ -2,9 +2,12 @@ use mathlib.Core.Path.{refl}
 use mathlib.Core.List.{[]}
 use denote.Ref.{now}
 use borrow.Author.Needs.{needs}
-use Rattle.desk_rules.proofs.DeskLaws.{said-laid, ended-stopped, ended-empty, ended-line}
+use Rattle.desk_rules.proofs.DeskLaws.{said-laid, goes-on, ended-stopped, ended-empty, ended-line}
 use Rattle.desk_lines.proofs.desk.finish_ready.Tie as tie
 use Rattle.desk_lines.proofs.desk.finish_ready.Statement.{statement}
+
+has-stopped-requires : tie.Need-has-stopped-requires
+has-stopped-requires c κs = search needs
 
 returns : tie.Need-returns
 returns c =
@@ -15,24 +18,30 @@ returns c =
     let collection = at-start .args .collection .now in
     let line = at-start .args .line .now in
     let out = at-start .args .out .now in
-    rw (ended-stopped m register guide collection line out (c .if1 .taken))
+    rw (ended-stopped m register guide collection line out (c .before .has-stopped .ensures) (c .if1 .taken))
     (said-laid m register guide collection line out (at-start .pre) [] out 0 (refl, refl))
 
 returns-2 : tie.Need-returns-2
 returns-2 c =
-    let if1 = c .before .before .if1 in
-    let at-start = c .before .before .before .before .before .before .before .before .before in
+    let at-if1 = c .before .before in
+    let if1 = at-if1 .if1 in
+    let has-stopped = at-if1 .before .has-stopped in
+    let at-start = at-if1 .before .before .before .before .before .before .before in
     let m = at-start .args .m in
     let register = at-start .args .register .now in
     let guide = at-start .args .guide .now in
     let collection = at-start .args .collection .now in
     let line = at-start .args .line .now in
     let out = at-start .args .out .now in
-    rw (ended-empty m register guide collection line out (if1 .left) (c .if2 .taken))
+    rw (ended-empty m register guide collection line out (has-stopped .ensures) (if1 .left) (c .if2 .taken))
     (said-laid m register guide collection line out (at-start .pre) [] out 0 (refl, refl))
 
 end-line-requires : tie.Need-end-line-requires
-end-line-requires c κs = search needs
+end-line-requires c κs =
+    let at-if1 = c .before .before .before .before .before .before in
+    let has-stopped = at-if1 .before .has-stopped in
+    let at-start = at-if1 .before .before .before .before .before .before .before in
+    (at-start .pre, goes-on (at-start .args .m .lines) (has-stopped .ensures) (at-if1 .if1 .left))
 
 same-length : tie.Need-same-length
 same-length c = search needs
@@ -50,15 +59,19 @@ returns-3 : tie.Need-returns-3
 returns-3 c =
     let at-end-line = c .before .before .before .before .before .before .before .before in
     let at-if2 = at-end-line .before .before .before .before .before in
-    let if1 = at-if2 .before .before .if1 in
-    let at-start = at-if2 .before .before .before .before .before .before .before .before .before in
+    let at-if1 = at-if2 .before .before in
+    let if1 = at-if1 .if1 in
+    let has-stopped = at-if1 .before .has-stopped in
+    let at-start = at-if1 .before .before .before .before .before .before .before in
     rw (ended-line (at-start .args .m) (at-start .args .register .now) (at-start .args .guide .now) (at-start .args .collection .now)
-    (at-start .args .line .now) (at-start .args .out .now) (at-start .pre) (if1 .left) (at-if2 .if2 .left)) (at-end-line .end-line .ensures)
+    (at-start .args .line .now) (at-start .args .out .now) (has-stopped .ensures) (at-start .pre) (if1 .left) (at-if2 .if2 .left))
+    (at-end-line .end-line .ensures)
 
 pub finish-ready-spec : {M : Type 1} → statement M
 finish-ready-spec =
     tie.close
     (tie.spec
+    has-stopped-requires
     returns
     returns-2
     end-line-requires

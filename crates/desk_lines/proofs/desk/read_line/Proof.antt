@@ -1,12 +1,12 @@
 use mathlib.Core.Path.{ap, _∙_}
 use Prim.Native.Nat.{_/_, _≤_}
 use native.Mathlib.Omega.{arith}
-use lib.ListN.{length-append, length}
+use lib.ListN.{length-append, length-take, length-drop, length}
 use denote.Ref.{now}
 use borrow.Author.Needs.{needs}
 use Rattle.desk_rules.specs.Hex.{bytesIn}
 use Rattle.desk_rules.proofs.OverLaws.{first-of, behind-first}
-use Rattle.desk_rules.proofs.HexLaws.{readable-two, bytes-length}
+use Rattle.desk_rules.proofs.HexLaws.{readable-two, bytes-length, decoded-is}
 use Rattle.desk_lines.proofs.desk.read_line.Tie as tie
 use Rattle.desk_lines.proofs.desk.read_line.Statement.{statement}
 
@@ -43,8 +43,11 @@ part-framed-start c =
 part-framed-end : tie.Need-part-framed-end
 part-framed-end c =
     let at-decode = c .before .before .before .before .before .before in
-    let line = at-decode .before .before .before .before .before .before .before .args .line .now in
-    let n = ap length (at-decode .decode .ensures) ∙ bytes-length line in
+    let at-start = at-decode .before .before .before .before .before .before .before in
+    let line = at-start .args .line .now in
+    let t = readable-two line (at-start .pre .0) in
+    let n = ap length (at-decode .decode .ensures ∙ decoded-is line _ (simp (length-take, length-drop) (omega arith)))
+    ∙ bytes-length line in
     simp length-append (omega arith)
 
 framed-requires : tie.Need-framed-requires
@@ -71,9 +74,11 @@ returns c =
     let t = readable-two line (at-start .pre .0) in
     let n = bytes-length line in
     let k : 1 ≤ length line / 2 = omega arith in
-    λ l ready.
-    rw (at-decode .decode .ensures, first-of (bytesIn line) _ (length line / 2) n k, behind-first (bytesIn line) _ (length line / 2) n k)
-    at (at-framed .framed .ensures l ready)
+    λ l ready. rw (
+      at-decode .decode .ensures ∙ decoded-is line _ (simp (length-take, length-drop) (omega arith)),
+      first-of (bytesIn line) _ (length line / 2) n k,
+      behind-first (bytesIn line) _ (length line / 2) n k,
+    ) at (at-framed .framed .ensures l ready)
 
 pub read-line-spec : {M : Type 1} → statement M
 read-line-spec =

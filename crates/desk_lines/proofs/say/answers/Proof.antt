@@ -1,4 +1,4 @@
-use mathlib.Core.Path.{_≡_, refl, sym}
+use mathlib.Core.Path.{_≡_, _∙_, refl, sym}
 use Prim.Native.Nat.{_-_, _≤_}
 use native.Mathlib.Omega.{arith}
 use lib.ListN.{length-take, length-drop}
@@ -6,6 +6,7 @@ use denote.Ref.{now}
 use borrow.Author.Needs.{needs}
 use Rattle.desk_rules.specs.Served.{over}
 use Rattle.desk_rules.specs.Desk.{answersSaid}
+use Rattle.desk_rules.proofs.HexLaws.{encoded-is}
 use Rattle.desk_rules.proofs.SayLaws.{answers-length, answers-room, answers-more}
 use Rattle.desk_lines.proofs.say.answers.Tie as tie
 use Rattle.desk_lines.proofs.say.answers.Statement.{statement}
@@ -66,13 +67,7 @@ part-encode-end c =
     omega (arith, pre .1)
 
 encode-requires : tie.Need-encode-requires Inv-loop μ-loop
-encode-requires c κs =
-    let at-loop = c .before .before .before .before .before .before in
-    let at-start = at-loop .before .before .before in
-    let pre = at-start .pre in
-    let l = answers-room (at-start .args .given .now) (at-start .args .out .now) (at-loop .loop .i) (at-loop .loop .inv .1)
-    (omega (arith, at-loop .loop .inv .0, pre .1)) in
-    simp (length-take, length-drop) (omega (arith, pre .1))
+encode-requires c κs = search needs
 
 add-i : tie.Need-add-i Inv-loop μ-loop
 add-i c =
@@ -88,11 +83,14 @@ loop-again c =
     let at-low = c .before .before .before .before .before .before in
     let high = at-low .before .high in
     let at-loop = at-low .before .before .before in
-    let at-start = at-loop .before .before .before .args in (
-      omega arith,
-      answers-more (at-start .given .now) (at-start .out .now) (at-loop .loop .i) (at-loop .loop .inv .1) _
-          (rw (high .ensures, at-low .low .ensures) at (encode .ensures)),
-    )
+    let inv = at-loop .loop .inv in
+    let at-start = at-loop .before .before .before in
+    let pre = at-start .pre in
+    let given = at-start .args .given .now in
+    let out = at-start .args .out .now in
+    let l = answers-room given out (at-loop .loop .i) (inv .1) (omega (arith, inv .0, pre .1)) in
+    let e = encode .ensures ∙ encoded-is _ _ (simp (length-take, length-drop) (omega (arith, pre .1))) in
+    (omega arith, answers-more given out (at-loop .loop .i) (inv .1) _ (rw (high .ensures, at-low .low .ensures) at e))
 
 mul-result : tie.Need-mul-result Inv-loop μ-loop
 mul-result c = omega (arith, c .before .before .before .before .pre .0 .0)

@@ -1,11 +1,12 @@
-use mathlib.Core.Path.{sym}
+use mathlib.Core.Path.{sym, _∙_}
 use Prim.Native.Nat.{_+_, _*_}
-use lib.ListN.{length}
+use native.Mathlib.Omega.{arith}
+use lib.ListN.{length, length-take, length-drop}
 use denote.Ref.{now}
 use borrow.Author.Needs.{needs}
 use Rattle.desk_rules.specs.Hex.{lineOf}
 use Rattle.desk_rules.proofs.OverLaws.{over-part}
-use Rattle.desk_rules.proofs.HexLaws.{line-length}
+use Rattle.desk_rules.proofs.HexLaws.{line-length, encoded-is}
 use Rattle.desk_lines.proofs.say.line.Tie as tie
 use Rattle.desk_lines.proofs.say.line.Statement.{statement}
 
@@ -36,7 +37,8 @@ returns c =
     let at-start = c .before .before .before .before .before .before .args in
     let frame = at-start .frame .now in (
       sym (line-length frame),
-      rw (encode .ensures) (over-part (lineOf frame) (at-start .out .now) (2 * length frame + 1) (sym (line-length frame))),
+      rw (encode .ensures ∙ encoded-is frame _ (simp (length-take, length-drop) (omega arith)))
+          (over-part (lineOf frame) (at-start .out .now) (2 * length frame + 1) (sym (line-length frame))),
     )
 
 pub line-spec : {M : Type 1} → statement M

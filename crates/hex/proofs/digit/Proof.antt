@@ -1,7 +1,7 @@
 use borrow.Author.Needs.{needs}
 use borrow.Author.Tests.{lt-ltb, le-ltb}
-use Rattle.desk_lines.proofs.hex.digit.Tie as tie
-use Rattle.desk_lines.proofs.hex.digit.Statement.{statement}
+use Rattle.hex.proofs.digit.Tie as tie
+use Rattle.hex.proofs.digit.Statement.{statement}
 
 add-result : tie.Need-add-result
 add-result c = search needs

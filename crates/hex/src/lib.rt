@@ -1,8 +1,7 @@
 // Hexadecimal, read in either case and written small.
 ghost use mathlib.Core.Path.{_≡_};
-ghost use Prim.Native.Nat.{_+_, _*_, _/_, _<_};
-ghost use lib.ListN.{length};
-ghost use Rattle.desk_rules.specs.Hex.{isHexDigit, hexValue, isHex, bytesIn, hexDigit, lineOf};
+ghost use Prim.Native.Nat.{_<_};
+ghost use Rattle.desk_rules.specs.Hex.{isHexDigit, hexValue, isHex, hexDigit, decoded, encoded};
 
 // A letter less this is its value, from 10 on.
 const TEN_CAPITAL: u8 = b'A' - 10;
@@ -46,11 +45,13 @@ pub fn is_hex(line: &[u8]) -> bool
     i == line.len()
 }
 
-// The bytes of a line.
+// The bytes of a line, into room for just so many; other room is left as it is.
 pub fn decode(line: &[u8], bytes: &mut [u8])
-    requires { ⌜ length (now bytes) ≡ length (now line) / 2 ⌝ }
-    ensures { λ _. ⌜ now (bytes .exit) ≡ bytesIn (now (line .entry)) ⌝ }
+    ensures { λ _. ⌜ now (bytes .exit) ≡ decoded (now (line .entry)) (now (bytes .entry)) ⌝ }
 {
+    if bytes.len() != line.len() / 2 {
+        return;
+    }
     let mut i: usize = 0;
     while i < bytes.len() {
         let a = 2 * i;
@@ -70,11 +71,13 @@ fn digit(n: u8) -> u8
     TEN_SMALL + n
 }
 
-// The line of a frame, its newline too.
+// The line of a frame, its newline too, into room for just so much; other room is left as it is.
 pub fn encode(frame: &[u8], line: &mut [u8])
-    requires { ⌜ length (now line) ≡ 2 * length (now frame) + 1 ⌝ }
-    ensures { λ _. ⌜ now (line .exit) ≡ lineOf (now (frame .entry)) ⌝ }
+    ensures { λ _. ⌜ now (line .exit) ≡ encoded (now (frame .entry)) (now (line .entry)) ⌝ }
 {
+    if line.len() != 2 * frame.len() + 1 {
+        return;
+    }
     let mut i: usize = 0;
     while i < frame.len() {
         let b = frame[i];

@@ -1,4 +1,4 @@
-use mathlib.Core.Path.{_≡_, refl, sym}
+use mathlib.Core.Path.{_≡_, _∙_, refl, sym}
 use mathlib.Core.List.{_++_}
 use Prim.Native.Nat.{_-_, _≤_}
 use native.Mathlib.Omega.{arith}
@@ -6,16 +6,21 @@ use lib.ListN.{length, take, drop}
 use denote.Ref.{now}
 use borrow.Author.Needs.{needs}
 use Rattle.desk_rules.specs.Hex.{bytesIn}
-use Rattle.desk_rules.proofs.HexLaws.{bytes-length, bytes-at}
+use Rattle.desk_rules.proofs.HexLaws.{bytes-length, bytes-at, decoded-is, decoded-not}
 use Rattle.desk_rules.proofs.OverLaws.{front-length, front-more, front-all}
-use Rattle.desk_lines.proofs.hex.decode.Tie as tie
-use Rattle.desk_lines.proofs.hex.decode.Statement.{statement}
+use Rattle.hex.proofs.decode.Tie as tie
+use Rattle.hex.proofs.decode.Statement.{statement}
 
 abbrev Inv-loop : tie.InvT-loop
 Inv-loop line bytes₀ i₀ bytes i = (i ≤ length bytes₀) × (bytes ≡ take i (bytesIn line) ++ drop i bytes₀)
 
 abbrev μ-loop : tie.MeasureT-loop
 μ-loop line bytes₀ i₀ bytes i = length bytes₀ - i
+
+returns : tie.Need-returns Inv-loop μ-loop
+returns c =
+    let at-start = c .before .before .before .args in
+    sym (decoded-not (at-start .line .now) (at-start .bytes .now) (c .if1 .taken))
 
 loop-holds : tie.Need-loop-holds Inv-loop μ-loop
 loop-holds c = (search needs, refl)
@@ -29,7 +34,7 @@ add-b c = search needs
 shared-slice-read-value : tie.Need-shared-slice-read-value Inv-loop μ-loop
 shared-slice-read-value c =
     let at-loop = c .before .before in
-    let at-start = at-loop .before .before .before .args in
+    let at-start = at-loop .before .before .before .before .args in
     let line = at-start .line .now in
     let l = front-length (bytesIn line) (at-start .bytes .now) (at-loop .loop .i) (at-loop .loop .inv .1) (omega (arith, bytes-length line))
     (at-loop .loop .inv .0) in
@@ -44,7 +49,7 @@ mul-bytes c = search needs
 shared-slice-read-value-2 : tie.Need-shared-slice-read-value-2 Inv-loop μ-loop
 shared-slice-read-value-2 c =
     let at-loop = c .before .before .before .before in
-    let at-start = at-loop .before .before .before .args in
+    let at-start = at-loop .before .before .before .before .args in
     let line = at-start .line .now in
     let l = front-length (bytesIn line) (at-start .bytes .now) (at-loop .loop .i) (at-loop .loop .inv .1) (omega (arith, bytes-length line))
     (at-loop .loop .inv .0) in
@@ -65,7 +70,7 @@ add-i c = search needs
 loop-less : tie.Need-loop-less Inv-loop μ-loop
 loop-less c =
     let at-loop = c .before .before .before .before .before in
-    let at-start = at-loop .before .before .before .args in
+    let at-start = at-loop .before .before .before .before .args in
     let line = at-start .line .now in
     let l = front-length (bytesIn line) (at-start .bytes .now) (at-loop .loop .i) (at-loop .loop .inv .1) (omega (arith, bytes-length line))
     (at-loop .loop .inv .0) in
@@ -77,7 +82,7 @@ loop-again c =
     let at-loop = c .before .before .before .before .before in
     let i = at-loop .loop .i in
     let inv = at-loop .loop .inv in
-    let at-start = at-loop .before .before .before .args in
+    let at-start = at-loop .before .before .before .before .args in
     let line = at-start .line .now in
     let bytes = at-start .bytes .now in
     let l = front-length (bytesIn line) bytes i (inv .1) (omega (arith, bytes-length line)) (inv .0) in (
@@ -89,20 +94,22 @@ loop-again c =
 same-length : tie.Need-same-length Inv-loop μ-loop
 same-length c =
     let at-loop = c .before in
-    let at-start = at-loop .before .before .before .args in
+    let at-start = at-loop .before .before .before .before .args in
     let line = at-start .line .now in
     front-length (bytesIn line) (at-start .bytes .now) (at-loop .loop .i) (at-loop .loop .inv .1) (omega (arith, bytes-length line))
     (at-loop .loop .inv .0)
 
-returns : tie.Need-returns Inv-loop μ-loop
-returns c =
+returns-2 : tie.Need-returns-2 Inv-loop μ-loop
+returns-2 c =
     let at-loop = c .before in
     let inv = at-loop .loop .inv in
-    let at-start = at-loop .before .before .before .args in
+    let if1 = at-loop .before .if1 in
+    let at-start = at-loop .before .before .before .before .args in
     let line = at-start .line .now in
     let bytes = at-start .bytes .now in
     let l = front-length (bytesIn line) bytes (at-loop .loop .i) (inv .1) (omega (arith, bytes-length line)) (inv .0) in
     front-all (bytesIn line) bytes (at-loop .loop .i) (inv .1) (omega (arith, bytes-length line)) (omega arith)
+    ∙ sym (decoded-is line bytes (if1 .left))
 
 pub decode-spec : {M : Type 1} → statement M
 decode-spec =
@@ -110,6 +117,7 @@ decode-spec =
     (tie.spec
     Inv-loop
     μ-loop
+    returns
     loop-holds
     mul-a
     add-b
@@ -124,4 +132,4 @@ decode-spec =
     loop-less
     loop-again
     same-length
-    returns)
+    returns-2)

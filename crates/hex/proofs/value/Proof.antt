@@ -1,7 +1,7 @@
 use native.Mathlib.Omega.{arith}
 use Rattle.desk_rules.proofs.HexLaws.{range-in}
-use Rattle.desk_lines.proofs.hex.value.Tie as tie
-use Rattle.desk_lines.proofs.hex.value.Statement.{statement}
+use Rattle.hex.proofs.value.Tie as tie
+use Rattle.hex.proofs.value.Statement.{statement}
 
 sub-result : tie.Need-sub-result
 sub-result c = range-in 48 (c .before .args .b) 57 (c .if1 .taken) .0

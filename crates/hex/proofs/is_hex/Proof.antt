@@ -6,8 +6,8 @@ use denote.Ref.{now}
 use borrow.Author.Needs.{needs}
 use Rattle.desk_rules.specs.Hex.{isHex}
 use Rattle.desk_rules.proofs.HexLaws.{hex-more, hex-not, hex-end}
-use Rattle.desk_lines.proofs.hex.is_hex.Tie as tie
-use Rattle.desk_lines.proofs.hex.is_hex.Statement.{statement}
+use Rattle.hex.proofs.is_hex.Tie as tie
+use Rattle.hex.proofs.is_hex.Statement.{statement}
 
 abbrev Inv-loop : tie.InvT-loop
 Inv-loop line i₀ i = (i ≤ length line) × (isHex (drop i line) ≡ isHex line)
