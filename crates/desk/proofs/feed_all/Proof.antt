@@ -1,3 +1,5 @@
+-- Standing on what is left from i on is standing on the whole input, and its length less i falls. stands-more puts feed's promise of a byte
+-- to that; each buffer keeps its length, so that it may be lent anew.
 use mathlib.Core.Path.{refl, _≡_}
 use Prim.Native.Nat.{_-_, _≤_}
 use native.Mathlib.Omega.{arith}

@@ -1,3 +1,4 @@
+-- Only the lengths of the lent buffers are kept, for they are lent anew with each turn. turns falls: the loop's test has it above 0.
 use mathlib.Core.Path.{_≡_}
 use native.Mathlib.Omega.{arith}
 use lib.Dec.{ltb}

@@ -1,3 +1,5 @@
+-- The first i bytes are the line's and the others as they were: front-more adds byte i, which bytes-at reads off the pair. What is left
+-- of the room falls. The guard is decoded's own test, so other room stays (decoded-not).
 use mathlib.Core.Path.{_≡_, _∙_, refl, sym}
 use mathlib.Core.List.{_++_}
 use Prim.Native.Nat.{_-_, _≤_}

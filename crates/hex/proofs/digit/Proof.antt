@@ -1,3 +1,4 @@
+-- The one test is hexDigit's own; with n below 16 either sum stays within a byte.
 use borrow.Author.Needs.{needs}
 use borrow.Author.Tests.{lt-ltb, le-ltb}
 use Rattle.hex.proofs.digit.Tie as tie

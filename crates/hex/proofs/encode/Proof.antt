@@ -1,3 +1,5 @@
+-- The first 2i characters are those of the frame's line and the others as they were; the frame's length less i falls. encode-more sets
+-- the two of byte i, encode-all the newline at the end. The guard is encoded's own test.
 use mathlib.Core.Path.{_≡_, _∙_, refl, sym}
 use mathlib.Core.List.{_++_}
 use Prim.Native.Nat.{_*_, _-_, _≤_}

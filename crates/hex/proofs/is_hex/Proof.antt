@@ -1,3 +1,5 @@
+-- isHex of what is left from i on is isHex of the line, and the length less i falls by two. hex-more passes a pair, hex-not ends at one
+-- that is no byte, and hex-end tells by i whether a last character stands alone.
 use mathlib.Core.Path.{_≡_, refl}
 use Prim.Native.Nat.{_-_, _≤_}
 use native.Mathlib.Omega.{arith}

@@ -1,3 +1,5 @@
+-- The three ranges are tried in the order of hexValue. range-in turns a range's test into its bounds: they carry the difference, and
+-- show that it is below 16.
 use native.Mathlib.Omega.{arith}
 use Rattle.desk_rules.proofs.HexLaws.{range-in}
 use Rattle.hex.proofs.value.Tie as tie

@@ -1,3 +1,4 @@
+-- marksOf of emptyDesk computes to five zeros.
 use mathlib.Core.Path.{refl}
 use Rattle.desk_rules.specs.Served.{marksOf}
 use Rattle.desk_rules.specs.Desk.{emptyDesk}

@@ -1,3 +1,5 @@
+-- With the line counted there is room still (next-ready). is_readable's answer is the test of lineEnded: by ended-read the promise is
+-- read_line's, by ended-not it is unread's.
 use mathlib.Core.Path.{_≡_, sym, _∙_}
 use Prim.Native.Nat.{_-_}
 use native.Mathlib.Omega.{arith}

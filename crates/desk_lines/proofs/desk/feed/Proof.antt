@@ -1,3 +1,4 @@
+-- is_ready is the test of served: where it holds, feed_ready promises the reply laid out, and where not, every lent byte is as it was.
 use mathlib.Core.Path.{refl, sym, _∙_}
 use denote.Ref.{now}
 use borrow.Author.Needs.{needs}

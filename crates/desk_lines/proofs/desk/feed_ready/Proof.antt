@@ -1,3 +1,5 @@
+-- The tests are those of fed, in its order. A desk that has stopped is silent (said-laid); one that goes on has a line left to count, as
+-- end_line asks (goes-on); another byte is type_byte's promise, for the lent bytes that it does not get.
 use mathlib.Core.Path.{refl}
 use mathlib.Core.List.{[]}
 use lib.ListN.{length}

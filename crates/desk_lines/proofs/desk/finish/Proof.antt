@@ -1,3 +1,4 @@
+-- Both cases of is_ready are those of served: finish_ready promises the end of input laid out, and without room nothing is done.
 use mathlib.Core.Path.{refl, sym, _∙_}
 use denote.Ref.{now}
 use borrow.Author.Needs.{needs}

@@ -1,3 +1,5 @@
+-- The tests are those of ended, in its order: a desk that has stopped or has an empty line is silent (said-laid), and a line that lacks
+-- its newline is end_line's, which goes-on lets count it.
 use mathlib.Core.Path.{refl}
 use mathlib.Core.List.{[]}
 use denote.Ref.{now}

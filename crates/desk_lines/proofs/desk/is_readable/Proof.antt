@@ -1,3 +1,4 @@
+-- The bounds of the length come first, as in isReadable: where they fail the conjunction is false, else it is what is_hex promises.
 use borrow.Author.Needs.{needs}
 use Rattle.desk_lines.proofs.desk.is_readable.Tie as tie
 use Rattle.desk_lines.proofs.desk.is_readable.Statement.{statement}

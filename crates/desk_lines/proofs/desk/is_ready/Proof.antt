@@ -1,3 +1,4 @@
+-- The six tests are hasRoom's, joined in the same way, and the constants compute to its numbers.
 use mathlib.Core.Path.{refl}
 use Rattle.desk_rules.specs.Served.{hasRoom}
 use Rattle.desk_lines.proofs.desk.is_ready.Tie as tie

@@ -1,3 +1,5 @@
+-- A readable line has two characters or more (readable-two), so decode writes k bytes and k is not 0: the first is the code (first-of), and
+-- those from 1 to k are the bytes behind it (behind-first). The rest is framed's promise.
 use mathlib.Core.Path.{ap, _∙_}
 use Prim.Native.Nat.{_/_, _≤_}
 use native.Mathlib.Omega.{arith}

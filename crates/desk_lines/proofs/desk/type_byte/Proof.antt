@@ -1,3 +1,4 @@
+-- Up to 2050 characters the byte is set behind those typed (type-laid); a line that is too long stays as it is (type-not).
 use mathlib.Core.Path.{refl}
 use mathlib.Core.List.{[]}
 use denote.Ref.{now}

@@ -1,3 +1,5 @@
+-- Where all fits within 65424, put writes the bytes behind those collected (collect-laid); where not, the definition too does what unread
+-- does (collect-not).
 use denote.Ref.{now}
 use borrow.Author.Needs.{needs}
 use Rattle.desk_rules.specs.Desk.{unread}

@@ -1,3 +1,5 @@
+-- Each return has the tests that lead to one case of framed: framed-collect, framed-look, framed-guide and framed-data give the callee's
+-- own promise. Bytes behind another code are unread whatever it is (framed-more), so the takes are told apart after that.
 use denote.Ref.{now}
 use borrow.Author.Needs.{needs}
 use Rattle.desk_rules.specs.Served.{benchOf, deskOf}

@@ -1,3 +1,5 @@
+-- The lookup promises seen of the register, whose state fits a byte (seen-bounded); the desk stays, and say::seen wrote the line
+-- (said-laid).
 use native.Mathlib.Omega.{arith}
 use denote.Ref.{now}
 use borrow.Author.Needs.{needs}

@@ -1,3 +1,5 @@
+-- taking::take_data gets the collected bytes and 325 answers of 0, as dataTake has them; data-laid lays that take out, the guide as it was.
+-- taken-fits bounds refusal and records, as say::taken asks.
 use mathlib.Core.Path.{_≡_}
 use Prim.Native.Nat.{_-_}
 use native.Mathlib.Omega.{arith}

@@ -1,3 +1,5 @@
+-- taking::take_guide gets the collected bytes and 325 answers of 0, as guideTake has them; guide-laid lays that take out, the register as
+-- it was. taken-fits bounds refusal and records, as say::taken asks.
 use mathlib.Core.Path.{_≡_}
 use Prim.Native.Nat.{_-_}
 use native.Mathlib.Omega.{arith}

@@ -1,3 +1,4 @@
+-- The desk stays as it is, and say::unread promises the line with its number: said-laid, whatever the other lent bytes are.
 use denote.Ref.{now}
 use borrow.Author.Needs.{needs}
 use Rattle.desk_rules.specs.Served.{deskOf}

@@ -1,3 +1,5 @@
+-- The first i answers stand at the start, nine bytes each (answers-length), and the rest is as it was; n - i falls. answers-more writes the
+-- next line behind them, and answers-room keeps the length, so that it has its place.
 use mathlib.Core.Path.{_≡_, _∙_, refl, sym}
 use Prim.Native.Nat.{_-_, _≤_}
 use native.Mathlib.Omega.{arith}

@@ -1,3 +1,4 @@
+-- line promises the line of the five bytes; high and low give both bytes of each count.
 use borrow.Author.Needs.{needs}
 use Rattle.desk_lines.proofs.say.counts.Tie as tie
 use Rattle.desk_lines.proofs.say.counts.Statement.{statement}

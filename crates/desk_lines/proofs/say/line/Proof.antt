@@ -1,3 +1,4 @@
+-- encode gets just the first 2n + 1 bytes and fills them with the frame's line (encoded-is); over-part says that of the whole output.
 use mathlib.Core.Path.{sym, _∙_}
 use Prim.Native.Nat.{_+_, _*_}
 use native.Mathlib.Omega.{arith}

@@ -1,3 +1,4 @@
+-- line promises the line of the six bytes: a refusal up to 255 is its own low byte, and place and position have two each.
 use mathlib.Core.Path.{_≡_}
 use Prim.Native.Nat.{_%_}
 use native.Mathlib.Omega.{arith}

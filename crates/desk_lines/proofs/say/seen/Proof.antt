@@ -1,3 +1,4 @@
+-- The test is that of lookSaid. Where no number was given the four bytes are fixed; else a state up to 255 is its own low byte.
 use mathlib.Core.Path.{_≡_}
 use Prim.Native.Nat.{_%_}
 use native.Mathlib.Omega.{arith}

@@ -1,3 +1,5 @@
+-- A refusal is refused's line. Else the answers end at nine bytes a record, which with 325 leaves room for the eleven of the counts, and
+-- over-last puts these behind them.
 use mathlib.Core.Path.{refl, sym, _∙_}
 use native.Mathlib.Omega.{arith}
 use lib.ListN.{length-take, length-drop, length-append, length}

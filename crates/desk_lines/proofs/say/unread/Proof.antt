@@ -1,3 +1,4 @@
+-- line promises the line of the three bytes; two of them are the number's by high and low.
 use borrow.Author.Needs.{needs}
 use Rattle.desk_lines.proofs.say.unread.Tie as tie
 use Rattle.desk_lines.proofs.say.unread.Statement.{statement}
