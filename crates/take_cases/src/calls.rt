@@ -4,7 +4,7 @@ use crate::write;
 use rules::Taken;
 use taking::take;
 
-const SPACE: u8 = 32;
+const SPACE: u8 = b' ';
 
 // Whether the line is a call of take_data; else it is one of take_guide.
 fn is_data(line: &[u8]) -> bool {

@@ -6,7 +6,7 @@ mod calls;
 mod read;
 mod write;
 
-const LINE_END: u8 = 10;
+const LINE_END: u8 = b'\n';
 
 // A call for each line.
 fn each(input: &[u8]) {

@@ -3,13 +3,16 @@ ghost use Prim.Native.Nat.{_≤_, _<_};
 ghost use lib.ListN.{length};
 use text::Class;
 
-const SPACE: u8 = 32;
+const SPACE: u8 = b' ';
 
-const OPEN: u8 = 40;
+const OPEN: u8 = b'(';
 
-const CLOSE: u8 = 41;
+const CLOSE: u8 = b')';
 
-const STAR: u8 = 42;
+const STAR: u8 = b'*';
+
+// `a` less this is ten.
+const TEN: u8 = b'a' - 10;
 
 // Whether a word begins with this name.
 fn begins(word: &[u8], name: &[u8]) -> bool {
@@ -37,9 +40,9 @@ fn digit(b: u8) -> u8
     if text::in_class(Class::Digit, b) {
         return b % 16;
     }
-    if 97 <= b {
-        if b <= 102 {
-            return b - 87;
+    if b'a' <= b {
+        if b <= b'f' {
+            return b - TEN;
         }
     }
     0

@@ -2,15 +2,22 @@
 ghost use Prim.Native.Nat.{_≤_, _<_};
 ghost use lib.ListN.{length};
 use crate::read;
-use case_lines::out;
+
+fn word(b: &[u8]) {
+    io::write_all(1, b);
+}
+
+fn decimal(n: u64) {
+    io::print_decimal(1, n);
+}
 
 pub fn line_end() {
-    out::word(b"\n");
+    word(b"\n");
 }
 
 pub fn number(name: &[u8], n: u32) {
-    out::word(name);
-    out::number(n as u64);
+    word(name);
+    decimal(n as u64);
 }
 
 fn byte(b: u8) {
@@ -31,11 +38,11 @@ fn run(b: u8, n: usize) {
         times(b, n);
         return;
     }
-    out::word(b"(");
+    word(b"(");
     byte(b);
-    out::word(b"*");
-    out::number(n as u64);
-    out::word(b")");
+    word(b"*");
+    decimal(n as u64);
+    word(b")");
 }
 
 // Where the run of one byte ends that begins at i.
@@ -69,10 +76,10 @@ pub fn part(line: &[u8], name: &[u8], s: &[u8]) {
     // The register is the largest part.
     let mut was = [0u8; 32768];
     let n = read::part(&mut was, line, name);
-    out::word(b" ");
-    out::word(name);
+    word(b" ");
+    word(name);
     if text::same(&was[0..n], s) {
-        out::word(b"same");
+        word(b"same");
         return;
     }
     every_run(s);

@@ -1,5 +1,5 @@
 // Cases of cycles and counts: which cycle follows, and how a number is written.
-use case_lines::out;
+use crate::out;
 use layout::counter::Cycle;
 
 fn after(last: u32) {
@@ -44,7 +44,7 @@ fn next_cycles() {
 
 // A cycle in its field: no leading zero, spaces behind; dots stay where it does not fit.
 fn cycle(n: u32) {
-    let mut f = [46u8; 6];
+    let mut f = [b'.'; 6];
     Cycle::given(n).put(&mut f);
     out::word(b"cycle ");
     out::number(n as u64);
@@ -54,7 +54,7 @@ fn cycle(n: u32) {
 
 // A count in its field: spaces before it.
 fn count(n: u32) {
-    let mut f = [46u8; 9];
+    let mut f = [b'.'; 9];
     text::put_right(&mut f, n);
     out::word(b"count ");
     out::number(n as u64);

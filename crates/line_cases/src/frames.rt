@@ -1,9 +1,9 @@
 // Cases of header and trailer: what a header says, whether a trailer is read, and its count.
 use crate::cases;
 use crate::lists;
-use case_lines::lines as made;
-use case_lines::lines::Kind;
-use case_lines::out;
+use crate::made;
+use crate::made::Kind;
+use crate::out;
 use layout::table;
 use layout::table::TRAILER;
 use lines::frame;
@@ -35,8 +35,8 @@ fn trailers() {
 
 // A trailer whose record count is n, held against m.
 fn count(n: u32, m: usize) {
-    let mut f = [32u8; 9];
-    let mut s = [32u8; 200];
+    let mut f = [b' '; 9];
+    let mut s = [b' '; 200];
     text::put_right(&mut f, n);
     made::fill(Kind::Tail, &mut s);
     made::set(Kind::Tail, &mut s, table::COUNT, &f);
@@ -62,8 +62,8 @@ fn counts() {
 
 // The same bytes for a field of both.
 fn both(name: &[u8], k: usize, bytes: &[u8]) {
-    let mut header = [32u8; 200];
-    let mut trailer = [32u8; 200];
+    let mut header = [b' '; 200];
+    let mut trailer = [b' '; 200];
     made::fill(Kind::Head, &mut header);
     made::set(Kind::Head, &mut header, k, bytes);
     made::fill(Kind::Tail, &mut trailer);

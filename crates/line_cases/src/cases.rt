@@ -1,19 +1,19 @@
 // The forms of a case: a good line with something changed, and what came of it.
 use crate::lists;
 use crate::lists::Task;
-use case_lines::lines as made;
-use case_lines::lines::Kind;
-use case_lines::out;
+use crate::made;
+use crate::made::Kind;
+use crate::out;
 use layout::frame::Closed;
 use layout::table::HEADER;
 use layout::table::TRAILER;
 use lines::frame;
 
-const EQUALS: u8 = 61;
+const EQUALS: u8 = b'=';
 
 // A trailer beside the good header.
 pub fn closed(s: &[u8]) -> Closed {
-    let mut header = [32u8; 200];
+    let mut header = [b' '; 200];
     made::fill(Kind::Head, &mut header);
     frame::trailer_in(&TRAILER, &header, s)
 }
@@ -44,7 +44,7 @@ fn kind_word(kind: Kind) {
 
 // The good line itself.
 pub fn sample(kind: Kind) {
-    let mut line = [32u8; 512];
+    let mut line = [b' '; 512];
     made::fill(kind, &mut line);
     kind_word(kind);
     out::word(b"sample");
@@ -53,7 +53,7 @@ pub fn sample(kind: Kind) {
 
 // These bytes for field k.
 pub fn case(kind: Kind, name: &[u8], k: usize, bytes: &[u8]) {
-    let mut line = [32u8; 512];
+    let mut line = [b' '; 512];
     made::fill(kind, &mut line);
     made::set(kind, &mut line, k, bytes);
     kind_word(kind);
@@ -63,7 +63,7 @@ pub fn case(kind: Kind, name: &[u8], k: usize, bytes: &[u8]) {
 
 // These bytes for two fields.
 pub fn two(kind: Kind, name: &[u8], k: usize, bytes: &[u8], other: &[u8], j: usize, more: &[u8]) {
-    let mut line = [32u8; 512];
+    let mut line = [b' '; 512];
     made::fill(kind, &mut line);
     made::set(kind, &mut line, k, bytes);
     made::set(kind, &mut line, j, more);
@@ -76,7 +76,7 @@ pub fn two(kind: Kind, name: &[u8], k: usize, bytes: &[u8], other: &[u8], j: usi
 
 // Byte i of field k, from 1, is b.
 pub fn byte(kind: Kind, name: &[u8], k: usize, i: usize, b: u8) {
-    let mut line = [32u8; 512];
+    let mut line = [b' '; 512];
     made::fill(kind, &mut line);
     made::set_byte(kind, &mut line, k, i, b);
     kind_word(kind);
@@ -105,13 +105,13 @@ pub fn field(kind: Kind, k: usize, entry: &[u8]) {
     let name = &entry[0..e];
     any(kind, name, k);
     if e < entry.len() {
-        lists::each(Task::Value(kind), name, k, &entry[e + 1..]);
+        lists::each(Task::Value(kind, k), name, &entry[e + 1..]);
     }
 }
 
 // The first n bytes of a line.
 pub fn short(kind: Kind, n: usize) {
-    let mut line = [32u8; 512];
+    let mut line = [b' '; 512];
     made::fill(kind, &mut line);
     kind_word(kind);
     out::word(b"of ");

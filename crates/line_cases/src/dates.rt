@@ -1,7 +1,7 @@
 // Cases of dates: the day number, or that there is no such day.
 use crate::lists;
 use crate::lists::Task;
-use case_lines::out;
+use crate::out;
 
 pub fn date(mmddyy: &[u8]) {
     out::word(b"date ");

@@ -1,33 +1,45 @@
 // Cases as text: a list has a bar between two items, a table of fields a semicolon between two entries.
 use crate::cases;
+use crate::dates;
+use crate::made;
+use crate::made::BAR;
+use crate::made::Kind;
+use crate::readers;
 use crate::rows;
-use case_lines::lines as made;
-use case_lines::lines::BAR;
-use case_lines::lines::Kind;
 
-const SEMICOLON: u8 = 59;
+const SEMICOLON: u8 = b';';
 
 // What the items of a list are.
 pub enum Task {
-    // What field k holds.
-    Value(Kind),
+    // What this field of a line holds.
+    Value(Kind, usize),
     // Low and High of a row, whose parity is the name.
     Span,
+    Date,
+    House,
+    // Low or High, read by itself.
+    End,
+    // House numbers that a parity, the name, allows or not.
+    Allowed,
 }
 
-fn one(task: Task, name: &[u8], k: usize, item: &[u8]) {
+fn one(task: Task, name: &[u8], item: &[u8]) {
     match task {
-        Task::Value(kind) => cases::case(kind, name, k, item),
+        Task::Value(kind, k) => cases::case(kind, name, k, item),
         Task::Span => rows::span(name, item),
+        Task::Date => dates::date(item),
+        Task::House => readers::house(item),
+        Task::End => readers::end(item),
+        Task::Allowed => readers::allowed(name, item),
     }
 }
 
 // A case for each item.
-pub fn each(task: Task, name: &[u8], k: usize, list: &[u8]) {
+pub fn each(task: Task, name: &[u8], list: &[u8]) {
     let mut i = 0;
     while i <= list.len() {
         let e = bytes::scan::find(list, i, list.len(), BAR);
-        one(task, name, k, &list[i..e]);
+        one(task, name, &list[i..e]);
         i = e + 1;
     }
 }

@@ -2,8 +2,8 @@
 use Prim.Native.Nat.{_+_, _-_}
 use lib.ListN.{length}
 use borrow.Author.Needs.{needs}
-use Rattle.layout_cases.proofs.lists.each_field.Statement.{statement}
-use Rattle.layout_cases.proofs.lists.each_field.Tie as tie
+use Rattle.line_cases.proofs.lists.each_field.Statement.{statement}
+use Rattle.line_cases.proofs.lists.each_field.Tie as tie
 
 abbrev Inv-loop : tie.InvT-loop
 Inv-loop kind entries i₀ k₀ i k = Unit {0}

@@ -2,8 +2,8 @@
 use Prim.Native.Nat.{_+_, _-_}
 use lib.ListN.{length}
 use borrow.Author.Needs.{needs}
-use Rattle.field_cases.proofs.lists.each.Statement.{statement}
-use Rattle.field_cases.proofs.lists.each.Tie as tie
+use Rattle.line_cases.proofs.lists.each.Statement.{statement}
+use Rattle.line_cases.proofs.lists.each.Tie as tie
 
 abbrev Inv-loop : tie.InvT-loop
 Inv-loop task name list i₀ i = Unit {0}

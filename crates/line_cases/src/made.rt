@@ -13,7 +13,7 @@ pub enum Kind {
 }
 
 // A list of cases is a text with a bar between two items.
-pub const BAR: u8 = 124;
+pub const BAR: u8 = b'|';
 
 // No table has more fields than the record's.
 const FIELDS: usize = table::RECORD_STAR + 1;
@@ -77,7 +77,7 @@ pub fn length(kind: Kind) -> usize {
 // Field k becomes these bytes, and spaces behind them.
 pub fn set(kind: Kind, line: &mut [u8], k: usize, bytes: &[u8]) {
     // No field is longer than Reserved.
-    let spaces = [32u8; 156];
+    let spaces = [b' '; 156];
     let f = field_of(kind, k);
     text::put(&mut line[..], f.at, text::part_of(&spaces, 0, f.size));
     text::put(&mut line[..], f.at, bytes);

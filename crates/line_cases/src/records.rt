@@ -1,7 +1,7 @@
 // Cases of the data record: the position of its first fault, or 0. What the good record holds is not run again.
 use crate::cases;
 use crate::lists;
-use case_lines::lines::Kind;
+use crate::made::Kind;
 use layout::table;
 
 // 003's type letters are no rule, and lower case is good in text.

@@ -3,8 +3,8 @@ use mathlib.Core.Path.{_≡_}
 use Prim.Native.Nat.{_+_, _-_}
 use lib.ListN.{length}
 use borrow.Author.Needs.{needs}
-use Rattle.case_lines.proofs.lines.put_all.Statement.{statement}
-use Rattle.case_lines.proofs.lines.put_all.Tie as tie
+use Rattle.line_cases.proofs.made.put_all.Statement.{statement}
+use Rattle.line_cases.proofs.made.put_all.Tie as tie
 
 abbrev Inv-loop : tie.InvT-loop
 Inv-loop line₀ t list i₀ k₀ line i k = length line ≡ length line₀

@@ -1,9 +1,9 @@
 // Cases of what is read from a line, and of what is written into one.
 use crate::lists;
 use crate::lists::Task;
-use case_lines::lines as made;
-use case_lines::lines::Kind;
-use case_lines::out;
+use crate::made;
+use crate::made::Kind;
+use crate::out;
 use layout::field;
 use layout::table;
 use text::Spelled;
@@ -14,7 +14,7 @@ fn shown(what: &[u8], bytes: &[u8]) {
 }
 
 fn of_record() {
-    let mut rec = [32u8; 512];
+    let mut rec = [b' '; 512];
     made::fill(Kind::Data, &mut rec);
     shown(b"number", field::number(&rec));
     shown(b"street", field::street(&rec));
@@ -26,7 +26,7 @@ fn of_record() {
 }
 
 fn of_row() {
-    let mut row = [32u8; 200];
+    let mut row = [b' '; 200];
     made::fill(Kind::Guide, &mut row);
     let parity = [field::parity(&row)];
     shown(b"parity", &parity);
@@ -82,8 +82,8 @@ fn same_esn(a: &[u8], b: &[u8]) {
 
 // A blank ESN is filled, and nothing else is written.
 fn filled() {
-    let mut rec = [32u8; 512];
-    let mut meant = [32u8; 512];
+    let mut rec = [b' '; 512];
+    let mut meant = [b' '; 512];
     made::fill(Kind::Data, &mut rec);
     made::fill(Kind::Data, &mut meant);
     made::set(Kind::Data, &mut rec, table::ESN, b"");
@@ -99,8 +99,8 @@ fn filled() {
 
 // Function becomes `I` and Source `C`, and nothing else is written.
 fn marked() {
-    let mut rec = [32u8; 512];
-    let mut meant = [32u8; 512];
+    let mut rec = [b' '; 512];
+    let mut meant = [b' '; 512];
     made::fill(Kind::Data, &mut rec);
     made::fill(Kind::Data, &mut meant);
     made::set(Kind::Data, &mut rec, table::FUNCTION, b"M");

@@ -2,16 +2,16 @@
 use crate::cases;
 use crate::lists;
 use crate::lists::Task;
-use case_lines::lines as made;
-use case_lines::lines::Kind;
-use case_lines::out;
+use crate::made;
+use crate::made::Kind;
+use crate::out;
 use layout::table;
 
-const DASH: u8 = 45;
+const DASH: u8 = b'-';
 
 // A row of this parity, from Low to High.
 fn row(parity: &[u8], low: &[u8], high: &[u8]) {
-    let mut line = [32u8; 512];
+    let mut line = [b' '; 512];
     made::fill(Kind::Guide, &mut line);
     made::set(Kind::Guide, &mut line, table::LOW, low);
     made::set(Kind::Guide, &mut line, table::HIGH, high);
@@ -30,7 +30,7 @@ pub fn span(parity: &[u8], ends: &[u8]) {
 }
 
 fn spans(parity: &[u8], list: &[u8]) {
-    lists::each(Task::Span, parity, 0, list);
+    lists::each(Task::Span, parity, list);
 }
 
 fn every_span() {
