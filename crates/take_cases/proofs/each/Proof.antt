@@ -1,4 +1,5 @@
--- Each turn goes past a line.
+-- Nothing is kept from turn to turn. find answers where the line ends, at most the end of the input: i = e + 1 is at most one behind
+-- it, so the sum does not wrap, and length input + 1 - i falls also where the last line lacks its newline.
 use Prim.Native.Nat.{_+_, _-_}
 use lib.ListN.{length}
 use borrow.Author.Needs.{needs}

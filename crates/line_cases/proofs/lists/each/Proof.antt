@@ -1,4 +1,5 @@
--- Each turn goes past an item of the list.
+-- Nothing is kept from turn to turn. find answers an end from i to the list's, so the item is a part of the list, and i = e + 1 goes
+-- past it and its bar: length list + 1 - i falls. The one is for the end itself, where an empty last item has its turn.
 use Prim.Native.Nat.{_+_, _-_}
 use lib.ListN.{length}
 use borrow.Author.Needs.{needs}

@@ -1,4 +1,5 @@
--- Each turn goes past the entry of a field.
+-- Nothing is kept from turn to turn: neither field nor after asks anything of k. find answers an end from i to that of the entries, so
+-- i = e + 1 goes past an entry and its semicolon, and length entries + 1 - i falls.
 use Prim.Native.Nat.{_+_, _-_}
 use lib.ListN.{length}
 use borrow.Author.Needs.{needs}

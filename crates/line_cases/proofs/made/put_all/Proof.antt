@@ -1,4 +1,5 @@
--- The line keeps its length, and each turn goes past an item of the list.
+-- The line only keeps its length, as every lend does: that is the invariant, and text::put asks nothing of a place. find answers an
+-- end from i to the list's, so the item is a part of the list and i = e + 1 goes past it and its bar: length list + 1 - i falls.
 use mathlib.Core.Path.{_≡_}
 use Prim.Native.Nat.{_+_, _-_}
 use lib.ListN.{length}

@@ -1,4 +1,5 @@
--- The part keeps its length, the place stays within it, and each turn goes past a piece.
+-- out keeps its length and at lies within it: put_piece requires that of each turn and promises it for the next, and at the end it is
+-- the promise. piece_end answers an end from i to that of s, so i = e + 1 goes past a piece and its bracket: length s + 1 - i falls.
 use mathlib.Core.Path.{_≡_}
 use Prim.Native.Nat.{_+_, _-_, _≤_}
 use lib.ListN.{length}

@@ -1,4 +1,5 @@
--- The sum stays a number of 32 bits, and each turn goes past a digit.
+-- The remainder keeps the sum below 2^32: ten times that and a digit, below 16 by its promise, fit 64 bits, and the last sum is a u32.
+-- run promises that n is at most the length, so each digit is there; n - i falls.
 use Prim.Native.Nat.{_-_, _<_}
 use borrow.Author.Needs.{needs}
 use Rattle.take_cases.proofs.read.number.Statement.{statement}

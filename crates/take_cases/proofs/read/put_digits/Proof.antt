@@ -1,4 +1,5 @@
--- The part keeps its length, and each turn goes past a digit.
+-- out keeps its length, which is all that is promised: byte_of and put take any place, also one behind the end. digit promises less
+-- than 16, which with_digit requires; length hex - i falls.
 use mathlib.Core.Path.{_≡_}
 use Prim.Native.Nat.{_-_}
 use lib.ListN.{length}

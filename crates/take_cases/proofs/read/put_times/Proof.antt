@@ -1,4 +1,5 @@
--- The part keeps its length, the place stays within it, and each turn writes the digits once.
+-- out keeps its length and e lies within it: put_hex requires that of each turn and promises it for the next, and at the end it is the
+-- promise. n - i falls.
 use mathlib.Core.Path.{_≡_}
 use Prim.Native.Nat.{_-_, _≤_}
 use lib.ListN.{length}

@@ -1,4 +1,5 @@
--- Each turn goes past a word of the line.
+-- Nothing is kept from turn to turn. find answers an end from i to the line's, so the word is a part of the line, and i = e + 1 goes
+-- past it and its space: length line + 1 - i falls. The empty part of the line is there for every line.
 use Prim.Native.Nat.{_+_, _-_}
 use lib.ListN.{length}
 use borrow.Author.Needs.{needs}

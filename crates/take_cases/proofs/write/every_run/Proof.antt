@@ -1,4 +1,4 @@
--- Each turn goes past a run.
+-- All comes from run_end's promise, i < e and e at most the length: e - i does not go below 0, and length s - i falls as i becomes e.
 use Prim.Native.Nat.{_-_}
 use lib.ListN.{length}
 use borrow.Author.Needs.{needs}

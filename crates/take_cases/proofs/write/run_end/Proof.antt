@@ -1,4 +1,5 @@
--- The end lies behind the start, and each turn goes past a byte.
+-- The invariant is the promise itself, i < e and e at most the length: i + 1 has it by what is required, a turn keeps it as e was below
+-- the length, and both returns answer e. It also puts both bytes that are compared inside s. length s - e falls.
 use Prim.Native.Nat.{_-_, _≤_, _<_}
 use lib.ListN.{length}
 use borrow.Author.Needs.{needs}

@@ -1,4 +1,4 @@
--- Each turn writes the byte once.
+-- Nothing is kept from turn to turn, and byte asks nothing: i counts up to n, so i + 1 does not wrap and n - i falls.
 use Prim.Native.Nat.{_-_}
 use borrow.Author.Needs.{needs}
 use Rattle.take_cases.proofs.write.times.Statement.{statement}
