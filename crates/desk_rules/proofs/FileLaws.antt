@@ -3,14 +3,13 @@
 use mathlib.Core.Path.{_≡_, _∙_, refl, sym, ap}
 use mathlib.Core.Bool.{Bool, true, false, cond}
 use mathlib.Core.List.{List, [], _∷_, _++_}
-use Prim.Native.Nat.{ℕ, zero, suc, _+_, _≤_, _<_}
+use Prim.Native.Nat.{ℕ, zero, suc, _+_, _≤_}
 use native.Mathlib.Omega.{arith}
 use lib.Dec.{leb, eqb}
 use lib.ListN.{length, drop, getD, List·getD-append}
 use borrow.Author.Tests.{eqb-true, ne-eqb}
 use Rattle.layout.specs.declared.frame.Header.{Header}
 use Rattle.layout.specs.Counters.{givenCycle}
-use Rattle.rules.specs.declared.Kind.{Kind}
 use Rattle.rules.specs.declared.Checked.{Checked}
 use Rattle.rules.specs.declared.Checked.the-variants.{Good, Refused}
 use Rattle.rules.specs.Takes.{Stores, linesIn, checked, answersTo, appliedFile}

@@ -1,17 +1,17 @@
 -- What the definition of the desk keeps: input in parts, the run of its own files, and how much a desk holds.
 -- Assumes nothing.
-use mathlib.Core.Path.{_≡_, _∙_, refl, sym, ap}
+use mathlib.Core.Path.{_≡_, refl, sym}
 use mathlib.Core.Bool.{Bool, true, false, cond}
-use mathlib.Core.List.{List, [], _∷_, _++_, append-assoc}
+use mathlib.Core.List.{List, [], _∷_, append-assoc}
 use Prim.Native.Nat.{ℕ, _+_, _≤_, _<_}
 use native.Mathlib.Omega.{arith}
 use lib.Dec.{leb, eqb}
-use lib.ListN.{length, drop, getD, length-append, replicate}
+use lib.ListN.{length, drop, getD, length-append}
 use borrow.Author.Tests.{leb-true, leb-false}
 use Rattle.rules.specs.Demands.{File, start, run}
 use Rattle.rules.proofs.Keep.{demand3}
 use Rattle.desk_rules.specs.Hex.{bytesIn}
-use Rattle.desk_rules.specs.Desk.{Desk, Reply, emptyDesk, mostCollected, mostTyped, mostLines, mostAnswers, collecting, takingGuide, takingData, looking, framed, isReadable, lineRead, nextLine, lineEnded, typed, hasStopped, fed, ended, fedAll}
+use Rattle.desk_rules.specs.Desk.{Desk, Reply, emptyDesk, mostCollected, mostTyped, mostLines, collecting, takingGuide, takingData, looking, framed, isReadable, lineRead, nextLine, lineEnded, typed, hasStopped, fed, ended, fedAll}
 use Rattle.desk_rules.specs.Files.{endFiles, filesOf, filesEnded}
 use Rattle.desk_rules.specs.Kept.{FeedBoth, IsRun, Demanded}
 use Rattle.desk_rules.proofs.FileLaws.{ended-takes, run-both, takes-run, fed-run, run-done}

@@ -89,8 +89,12 @@ pub const ROW_CODES: [u8; 2] = [b'I', b'D'];
 // `UHL` and two spaces.
 pub const OPENING: usize = 21;
 
+pub const HEADER_LETTERS: [u8; 5] = [b'U', b'H', b'L', b' ', b' '];
+
 // `UTL` and two spaces.
 pub const CLOSING: usize = 22;
+
+pub const TRAILER_LETTERS: [u8; 5] = [b'U', b'T', b'L', b' ', b' '];
 
 // A cycle.
 pub const TURN: usize = 23;

@@ -22,6 +22,7 @@ use layout::table::COMPANY_MOST;
 use layout::table::DIGITS;
 use layout::table::DIRECTION;
 use layout::table::FREE;
+use layout::table::HEADER_LETTERS;
 use layout::table::HIGH_END;
 use layout::table::HOUSE;
 use layout::table::LOW_END;
@@ -41,6 +42,7 @@ use layout::table::STAR;
 use layout::table::STARS;
 use layout::table::TALLY;
 use layout::table::TEXT;
+use layout::table::TRAILER_LETTERS;
 use layout::table::TURN;
 use layout::table::TYPES;
 use layout::table::ZERO_TO_FIVE;
@@ -128,8 +130,8 @@ fn keeps_frame(rule: usize, f: &[u8]) -> bool
     ensures { λ r. ⌜ r ≡ keepsFrame rule (now (f .entry)) ⌝ }
 {
     match rule {
-        OPENING => text::same(f, b"UHL  "),
-        CLOSING => text::same(f, b"UTL  "),
+        OPENING => text::same(f, &HEADER_LETTERS),
+        CLOSING => text::same(f, &TRAILER_LETTERS),
         TURN => is_cycle(f),
         TALLY => is_tally(f),
         _ => false,

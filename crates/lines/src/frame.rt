@@ -12,6 +12,9 @@ use layout::frame::Closed;
 use layout::frame::Header;
 use layout::frame::Opened;
 use layout::place;
+use layout::table::HEADER_LETTERS;
+use layout::table::STARS;
+use layout::table::TRAILER_LETTERS;
 
 // The date of a header or a trailer, six bytes.
 pub fn date(s: &[u8]) -> &[u8]
@@ -76,7 +79,7 @@ fn put_frame(s: &mut [u8], letters: &[u8], date: &[u8], company: &[u8], counter:
     ensures { λ _. ⌜ now (s .exit) ≡ frameWith (now (letters .entry)) (now (date .entry)) (now (company .entry)) (now (counter .entry)) (length (now (s .entry))) ⌝ }
 {
     text::fill(&mut s[..], b' ');
-    text::put(&mut s[..], place::FRAME_STAR_AT, b"*");
+    text::put(&mut s[..], place::FRAME_STAR_AT, &STARS);
     text::put(&mut s[..], place::CYCLE_AT, counter);
     text::put(&mut s[..], place::NAME_AT, company);
     text::put(&mut s[..], place::FRAME_DATE_AT, date);
@@ -89,7 +92,7 @@ pub fn put_header(s: &mut [u8], date: &[u8], company: &[u8], cycle: Cycle)
 {
     let mut counter = [b' '; place::CYCLE_SIZE];
     cycle.put(&mut counter);
-    put_frame(&mut s[..], b"UHL  ", date, company, &counter);
+    put_frame(&mut s[..], &HEADER_LETTERS, date, company, &counter);
 }
 
 // A trailer of n records.
@@ -98,5 +101,5 @@ pub fn put_trailer(s: &mut [u8], date: &[u8], company: &[u8], n: u32)
 {
     let mut counter = [b' '; place::COUNT_SIZE];
     text::put_right(&mut counter, n);
-    put_frame(&mut s[..], b"UTL  ", date, company, &counter);
+    put_frame(&mut s[..], &TRAILER_LETTERS, date, company, &counter);
 }
