@@ -5,6 +5,7 @@ use crate::made;
 use crate::made::Kind;
 use crate::out;
 use layout::frame::Closed;
+use layout::place;
 use layout::table::HEADER;
 use layout::table::TRAILER;
 use lines::frame;
@@ -13,7 +14,7 @@ const EQUALS: u8 = b'=';
 
 // A trailer beside the good header.
 pub fn closed(s: &[u8]) -> Closed {
-    let mut header = [b' '; 200];
+    let mut header = [b' '; place::FRAME_SIZE];
     made::fill(Kind::Head, &mut header);
     frame::trailer_in(&TRAILER, &header, s)
 }
@@ -44,7 +45,7 @@ fn kind_word(kind: Kind) {
 
 // The good line itself.
 pub fn sample(kind: Kind) {
-    let mut line = [b' '; 512];
+    let mut line = [b' '; place::RECORD_SIZE];
     made::fill(kind, &mut line);
     kind_word(kind);
     out::word(b"sample");
@@ -53,7 +54,7 @@ pub fn sample(kind: Kind) {
 
 // These bytes for field k.
 pub fn case(kind: Kind, name: &[u8], k: usize, bytes: &[u8]) {
-    let mut line = [b' '; 512];
+    let mut line = [b' '; place::RECORD_SIZE];
     made::fill(kind, &mut line);
     made::set(kind, &mut line, k, bytes);
     kind_word(kind);
@@ -63,7 +64,7 @@ pub fn case(kind: Kind, name: &[u8], k: usize, bytes: &[u8]) {
 
 // These bytes for two fields.
 pub fn two(kind: Kind, name: &[u8], k: usize, bytes: &[u8], other: &[u8], j: usize, more: &[u8]) {
-    let mut line = [b' '; 512];
+    let mut line = [b' '; place::RECORD_SIZE];
     made::fill(kind, &mut line);
     made::set(kind, &mut line, k, bytes);
     made::set(kind, &mut line, j, more);
@@ -76,7 +77,7 @@ pub fn two(kind: Kind, name: &[u8], k: usize, bytes: &[u8], other: &[u8], j: usi
 
 // Byte i of field k, from 1, is b.
 pub fn byte(kind: Kind, name: &[u8], k: usize, i: usize, b: u8) {
-    let mut line = [b' '; 512];
+    let mut line = [b' '; place::RECORD_SIZE];
     made::fill(kind, &mut line);
     made::set_byte(kind, &mut line, k, i, b);
     kind_word(kind);
@@ -111,7 +112,7 @@ pub fn field(kind: Kind, k: usize, entry: &[u8]) {
 
 // The first n bytes of a line.
 pub fn short(kind: Kind, n: usize) {
-    let mut line = [b' '; 512];
+    let mut line = [b' '; place::RECORD_SIZE];
     made::fill(kind, &mut line);
     kind_word(kind);
     out::word(b"of ");

@@ -4,6 +4,7 @@ use crate::lists;
 use crate::made;
 use crate::made::Kind;
 use crate::out;
+use layout::place;
 use layout::table;
 use layout::table::TRAILER;
 use lines::frame;
@@ -36,7 +37,7 @@ fn trailers() {
 // A trailer whose record count is n, held against m.
 fn count(n: u32, m: usize) {
     let mut f = [b' '; 9];
-    let mut s = [b' '; 200];
+    let mut s = [b' '; place::FRAME_SIZE];
     text::put_right(&mut f, n);
     made::fill(Kind::Tail, &mut s);
     made::set(Kind::Tail, &mut s, table::COUNT, &f);
@@ -62,8 +63,8 @@ fn counts() {
 
 // The same bytes for a field of both.
 fn both(name: &[u8], k: usize, bytes: &[u8]) {
-    let mut header = [b' '; 200];
-    let mut trailer = [b' '; 200];
+    let mut header = [b' '; place::FRAME_SIZE];
+    let mut trailer = [b' '; place::FRAME_SIZE];
     made::fill(Kind::Head, &mut header);
     made::set(Kind::Head, &mut header, k, bytes);
     made::fill(Kind::Tail, &mut trailer);

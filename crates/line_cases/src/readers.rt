@@ -5,6 +5,7 @@ use crate::made;
 use crate::made::Kind;
 use crate::out;
 use layout::field;
+use layout::place;
 use layout::table;
 use text::Spelled;
 
@@ -14,7 +15,7 @@ fn shown(what: &[u8], bytes: &[u8]) {
 }
 
 fn of_record() {
-    let mut rec = [b' '; 512];
+    let mut rec = [b' '; place::RECORD_SIZE];
     made::fill(Kind::Data, &mut rec);
     shown(b"number", field::number(&rec));
     shown(b"street", field::street(&rec));
@@ -26,7 +27,7 @@ fn of_record() {
 }
 
 fn of_row() {
-    let mut row = [b' '; 200];
+    let mut row = [b' '; place::ROW_SIZE];
     made::fill(Kind::Guide, &mut row);
     let parity = [field::parity(&row)];
     shown(b"parity", &parity);
@@ -82,8 +83,8 @@ fn same_esn(a: &[u8], b: &[u8]) {
 
 // A blank ESN is filled, and nothing else is written.
 fn filled() {
-    let mut rec = [b' '; 512];
-    let mut meant = [b' '; 512];
+    let mut rec = [b' '; place::RECORD_SIZE];
+    let mut meant = [b' '; place::RECORD_SIZE];
     made::fill(Kind::Data, &mut rec);
     made::fill(Kind::Data, &mut meant);
     made::set(Kind::Data, &mut rec, table::ESN, b"");
@@ -99,8 +100,8 @@ fn filled() {
 
 // Function becomes `I` and Source `C`, and nothing else is written.
 fn marked() {
-    let mut rec = [b' '; 512];
-    let mut meant = [b' '; 512];
+    let mut rec = [b' '; place::RECORD_SIZE];
+    let mut meant = [b' '; place::RECORD_SIZE];
     made::fill(Kind::Data, &mut rec);
     made::fill(Kind::Data, &mut meant);
     made::set(Kind::Data, &mut rec, table::FUNCTION, b"M");

@@ -5,13 +5,14 @@ use crate::lists::Task;
 use crate::made;
 use crate::made::Kind;
 use crate::out;
+use layout::place;
 use layout::table;
 
 const DASH: u8 = b'-';
 
 // A row of this parity, from Low to High.
 fn row(parity: &[u8], low: &[u8], high: &[u8]) {
-    let mut line = [b' '; 512];
+    let mut line = [b' '; place::RECORD_SIZE];
     made::fill(Kind::Guide, &mut line);
     made::set(Kind::Guide, &mut line, table::LOW, low);
     made::set(Kind::Guide, &mut line, table::HIGH, high);
