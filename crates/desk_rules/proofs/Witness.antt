@@ -43,6 +43,11 @@ pub example : said ≡ (97 ∷ 50 ∷ 48 ∷ 51 ∷ 48 ∷ 48 ∷ 48 ∷ 48 ∷ 
 unfolding said
 example = refl
 
+-- "both last cycles 0": and no line has ended, nothing is typed and nothing collected
+pub begins : marksOf emptyDesk ≡ record { lines = 0; typed = 0; collected = 0; guide = 0; register = 0 }
+unfolding marksOf emptyDesk
+begins = refl
+
 -- ---- what the program lends
 
 abbrev collection : List ℕ
