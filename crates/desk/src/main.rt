@@ -72,7 +72,7 @@ fn feed_some(
         &mut out[..],
         &input[..n],
     );
-    let more = (0 < n) & !desk::has_stopped(marks);
+    let more = (0 < n) & !desk_marks::has_stopped(marks);
     Turn { marks, more }
 }
 
@@ -85,7 +85,7 @@ fn feed_input(
     line: &mut [u8],
     out: &mut [u8],
 ) -> Marks {
-    let mut marks = desk::empty();
+    let mut marks = desk_marks::empty();
     let mut more = true;
     let mut turns = u64::MAX;
     while more & (0 < turns) {
@@ -107,9 +107,9 @@ fn feed_input(
 fn main() {
     let mut register = [0u8; desk::REGISTER_SIZE];
     let mut guide = [0u8; desk::GUIDE_SIZE];
-    let mut collection = [0u8; desk::COLLECTION_SIZE];
-    let mut line = [0u8; desk::LINE_SIZE];
-    let mut out = [0u8; desk::OUT_SIZE];
+    let mut collection = [0u8; desk_marks::COLLECTION_SIZE];
+    let mut line = [0u8; desk_marks::LINE_SIZE];
+    let mut out = [0u8; desk_marks::OUT_SIZE];
     let marks = feed_input(
         &mut register,
         &mut guide,

@@ -5,18 +5,14 @@ ghost use mathlib.Core.List.{List};
 ghost use Prim.Native.Nat.{ℕ, _+_, _≤_, _<_};
 ghost use lib.ListN.{length, drop, getD};
 ghost use Rattle.desk_rules.specs.Hex.{bytesIn};
-ghost use Rattle.desk_rules.specs.Desk.{emptyDesk, mostCollected, mostTyped, mostLines, silent, framed, isReadable, lineEnded, typed, stopsAfter, fed, ended};
-ghost use Rattle.desk_rules.specs.Served.{benchOf, mostSaid, hasRoom, marksOf, Serves, Laid, Lays};
+ghost use Rattle.desk_rules.specs.Desk.{mostCollected, mostTyped, mostLines, silent, framed, isReadable, lineEnded, typed, fed, ended};
+ghost use Rattle.desk_rules.specs.Served.{benchOf, mostSaid, hasRoom, Serves, Laid, Lays};
 use crate::frames;
 use desk_rules::Fed;
 use desk_rules::Marks;
 
-const MOST_LINES: u32 = 65535;
-
-const MOST_TYPED: usize = 2050;
-
 // So many bytes has a line of so many characters.
-const MOST_BYTES: usize = MOST_TYPED / 2;
+const MOST_BYTES: usize = desk_marks::MOST_TYPED / 2;
 
 // The desk program has 64 slots of each kind.
 const SLOTS: usize = 64;
@@ -25,45 +21,10 @@ pub const REGISTER_SIZE: usize = SLOTS * register::SLOT;
 
 pub const GUIDE_SIZE: usize = SLOTS * guide::SLOT;
 
-// What must be lent: room for the collection, for a line and one character more, and for the longest reply.
-pub const COLLECTION_SIZE: usize = frames::MOST_COLLECTED;
-
-pub const LINE_SIZE: usize = MOST_TYPED + 1;
-
-pub const OUT_SIZE: usize = 2936;
-
-// The marks of an empty desk.
-pub fn empty() -> Marks
-    ensures { λ r. ⌜ r ≡ marksOf emptyDesk ⌝ }
-{
-    Marks {
-        lines: 0,
-        typed: 0,
-        collected: 0,
-        guide: 0,
-        register: 0,
-    }
-}
-
-// Whether the last line has ended that is answered.
-pub fn has_stopped(m: Marks) -> bool
-    ensures { λ r. ⌜ r ≡ stopsAfter (m .lines) ⌝ }
-{
-    MOST_LINES <= m.lines
-}
-
-// There is room for all that a desk may hold and say, and the marks lie within it.
-fn is_ready(m: Marks, collection: usize, line: usize, out: usize) -> bool
-    ensures { λ r. ⌜ r ≡ hasRoom m collection line out ⌝ }
-{
-    ((COLLECTION_SIZE <= collection) & ((LINE_SIZE <= line) & (OUT_SIZE <= out)))
-        & ((m.collected <= COLLECTION_SIZE) & ((m.typed <= LINE_SIZE) & (m.lines <= MOST_LINES)))
-}
-
 fn is_readable(line: &[u8]) -> bool
     ensures { λ r. ⌜ r ≡ isReadable (now (line .entry)) ⌝ }
 {
-    if (1 <= line.len()) & (line.len() <= MOST_TYPED) {
+    if (1 <= line.len()) & (line.len() <= desk_marks::MOST_TYPED) {
         return hex::is_hex(line);
     }
     false
@@ -76,7 +37,7 @@ fn type_byte(m: Marks, line: &mut [u8], b: u8) -> Fed
         (benchOf R G C (now (line .exit)) o)) ⌝ }
 {
     let n = m.typed;
-    if n <= MOST_TYPED {
+    if n <= desk_marks::MOST_TYPED {
         line[n] = b;
         return Fed {
             marks: Marks {
@@ -172,7 +133,7 @@ fn feed_ready(
         (benchOf (now (register .entry)) (now (guide .entry)) (now (collection .entry)) (now (line .entry)) (now (out .entry))) r
         (benchOf (now (register .exit)) (now (guide .exit)) (now (collection .exit)) (now (line .exit)) (now (out .exit))) ⌝ }
 {
-    if has_stopped(m) {
+    if desk_marks::has_stopped(m) {
         return Fed { marks: m, said: 0 };
     }
     if b == b'\n' {
@@ -202,7 +163,7 @@ pub fn feed(
         (benchOf (now (register .entry)) (now (guide .entry)) (now (collection .entry)) (now (line .entry)) (now (out .entry))) r
         (benchOf (now (register .exit)) (now (guide .exit)) (now (collection .exit)) (now (line .exit)) (now (out .exit))) ⌝ }
 {
-    if is_ready(m, collection.len(), line.len(), out.len()) {
+    if desk_marks::is_ready(m, collection.len(), line.len(), out.len()) {
         return feed_ready(
             m,
             &mut register[..],
@@ -230,7 +191,7 @@ fn finish_ready(
         (benchOf (now (register .entry)) (now (guide .entry)) (now (collection .entry)) (now (line .entry)) (now (out .entry))) r
         (benchOf (now (register .exit)) (now (guide .exit)) (now (collection .exit)) (now (line .entry)) (now (out .exit))) ⌝ }
 {
-    if has_stopped(m) {
+    if desk_marks::has_stopped(m) {
         return Fed { marks: m, said: 0 };
     }
     if m.typed == 0 {
@@ -259,7 +220,7 @@ pub fn finish(
         (benchOf (now (register .entry)) (now (guide .entry)) (now (collection .entry)) (now (line .entry)) (now (out .entry))) r
         (benchOf (now (register .exit)) (now (guide .exit)) (now (collection .exit)) (now (line .entry)) (now (out .exit))) ⌝ }
 {
-    if is_ready(m, collection.len(), line.len(), out.len()) {
+    if desk_marks::is_ready(m, collection.len(), line.len(), out.len()) {
         return finish_ready(
             m,
             &mut register[..],

@@ -1,5 +1,4 @@
 // What a frame does. Each promise is that of the definition, whatever the lent bytes are that it does not get.
-ghost use mathlib.Core.Path.{_≡_};
 ghost use mathlib.Core.List.{List};
 ghost use Prim.Native.Nat.{ℕ, _≤_};
 ghost use lib.ListN.{length};
@@ -17,8 +16,6 @@ const TAKE_GUIDE: u8 = 2;
 const TAKE_DATA: u8 = 3;
 
 const LOOK: u8 = 4;
-
-pub const MOST_COLLECTED: usize = 65424;
 
 const MOST_ANSWERS: usize = 325;
 
@@ -40,7 +37,7 @@ fn collect(m: Marks, collection: &mut [u8], out: &mut [u8], bytes: &[u8]) -> Fed
 {
     let a = m.collected;
     let e = a + bytes.len();
-    if e <= MOST_COLLECTED {
+    if e <= desk_marks::MOST_COLLECTED {
         text::put(&mut collection[..], a, bytes);
         return Fed {
             marks: Marks {
@@ -54,19 +51,6 @@ fn collect(m: Marks, collection: &mut [u8], out: &mut [u8], bytes: &[u8]) -> Fed
         };
     }
     unread(m, &mut out[..])
-}
-
-// The marks after a take, with its last cycles: the collection is empty.
-fn emptied(m: Marks, guide: u32, register: u32) -> Marks
-    ensures { λ r. ⌜ r ≡ record { lines = m .lines; typed = m .typed; collected = 0; guide = guide; register = register } ⌝ }
-{
-    Marks {
-        lines: m.lines,
-        typed: m.typed,
-        collected: 0,
-        guide,
-        register,
-    }
 }
 
 // 02: the collection is taken as a guide file, and emptied.
@@ -86,7 +70,7 @@ fn take_guide(m: Marks, register: &[u8], guide: &mut [u8], collection: &[u8], ou
         m.guide,
     );
     let said = say::taken(&mut out[..], t, &answers);
-    let marks = emptied(m, t.last, m.register);
+    let marks = desk_marks::emptied(m, t.last, m.register);
     Fed { marks, said }
 }
 
@@ -107,7 +91,7 @@ fn take_data(m: Marks, register: &mut [u8], guide: &[u8], collection: &[u8], out
         m.register,
     );
     let said = say::taken(&mut out[..], t, &answers);
-    let marks = emptied(m, m.guide, t.last);
+    let marks = desk_marks::emptied(m, m.guide, t.last);
     Fed { marks, said }
 }
 

@@ -1,6 +1,5 @@
 // What the desk writes: a frame a line, at the start of the output. Each answers how many bytes it wrote.
-ghost use mathlib.Core.Path.{_≡_};
-ghost use Prim.Native.Nat.{_+_, _*_, _/_, _%_, _≤_};
+ghost use Prim.Native.Nat.{_+_, _*_, _≤_};
 ghost use lib.ListN.{length};
 ghost use Rattle.desk_rules.specs.Hex.{lineOf};
 ghost use Rattle.desk_rules.specs.Desk.{mostAnswers, unreadSaid, answersSaid, countsSaid, refusalSaid, takeSaid, lookSaid};
@@ -25,19 +24,6 @@ const NO_STATE: u8 = 0xff;
 // How long the line of an answer is.
 const ANSWER_LINE: usize = 9;
 
-// A number's two bytes.
-fn high(n: u32) -> u8
-    ensures { λ r. ⌜ r ≡ n / 256 % 256 ⌝ }
-{
-    (n / 256 % 256) as u8
-}
-
-fn low(n: u32) -> u8
-    ensures { λ r. ⌜ r ≡ n % 256 ⌝ }
-{
-    (n % 256) as u8
-}
-
 // One frame.
 fn line(out: &mut [u8], frame: &[u8]) -> usize
     requires { ⌜ 2 * length (now frame) + 1 ≤ length (now out) ⌝ }
@@ -53,7 +39,7 @@ pub fn unread(out: &mut [u8], n: u32) -> usize
     requires { ⌜ mostSaid ≤ length (now out) ⌝ }
     ensures { λ r. ⌜ Writes (unreadSaid n) (now (out .entry)) r (now (out .exit)) ⌝ }
 {
-    let frame = [UNREAD, high(n), low(n)];
+    let frame = [UNREAD, hex::high(n), hex::low(n)];
     line(&mut out[..], &frame)
 }
 
@@ -65,7 +51,7 @@ fn answers(out: &mut [u8], given: &[u8], n: usize) -> usize
     let mut i: usize = 0;
     while i < n {
         let place = (i + 1) as u32;
-        let frame = [ANSWER, high(place), low(place), given[i]];
+        let frame = [ANSWER, hex::high(place), hex::low(place), given[i]];
         let a = ANSWER_LINE * i;
         let e = a + ANSWER_LINE;
         hex::encode(&frame, &mut out[a..e]);
@@ -80,7 +66,13 @@ fn counts(out: &mut [u8], t: Taken) -> usize
 {
     let done = t.done;
     let undone = t.undone;
-    let frame = [COUNTS, high(done), low(done), high(undone), low(undone)];
+    let frame = [
+        COUNTS,
+        hex::high(done),
+        hex::low(done),
+        hex::high(undone),
+        hex::low(undone),
+    ];
     line(&mut out[..], &frame)
 }
 
@@ -93,11 +85,11 @@ fn refused(out: &mut [u8], t: Taken) -> usize
     let position = t.position;
     let frame = [
         REFUSAL,
-        low(refusal),
-        high(place),
-        low(place),
-        high(position),
-        low(position),
+        hex::low(refusal),
+        hex::high(place),
+        hex::low(place),
+        hex::high(position),
+        hex::low(position),
     ];
     line(&mut out[..], &frame)
 }
@@ -126,6 +118,6 @@ pub fn seen(out: &mut [u8], s: Seen) -> usize
     }
     let state = s.state;
     let looked = s.looked;
-    let frame = [SEEN, low(state), high(looked), low(looked)];
+    let frame = [SEEN, hex::low(state), hex::high(looked), hex::low(looked)];
     line(&mut out[..], &frame)
 }

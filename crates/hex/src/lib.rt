@@ -1,6 +1,6 @@
 // Hexadecimal, read in either case and written small.
 ghost use mathlib.Core.Path.{_≡_};
-ghost use Prim.Native.Nat.{_<_};
+ghost use Prim.Native.Nat.{_/_, _%_, _<_};
 ghost use Rattle.desk_rules.specs.Hex.{isHexDigit, hexValue, isHex, hexDigit, decoded, encoded};
 
 // A letter less this is its value, from 10 on.
@@ -89,4 +89,17 @@ pub fn encode(frame: &[u8], line: &mut [u8])
     }
     let last = 2 * frame.len();
     line[last] = b'\n';
+}
+
+// The two bytes of a number that has no more.
+pub fn high(n: u32) -> u8
+    ensures { λ r. ⌜ r ≡ n / 256 % 256 ⌝ }
+{
+    (n / 256 % 256) as u8
+}
+
+pub fn low(n: u32) -> u8
+    ensures { λ r. ⌜ r ≡ n % 256 ⌝ }
+{
+    (n % 256) as u8
 }

@@ -2,8 +2,8 @@
 use mathlib.Core.Path.{refl}
 use Rattle.desk_rules.specs.Served.{marksOf}
 use Rattle.desk_rules.specs.Desk.{emptyDesk}
-use Rattle.desk_lines.proofs.desk.empty.Tie as tie
-use Rattle.desk_lines.proofs.desk.empty.Statement.{statement}
+use Rattle.desk_marks.proofs.empty.Tie as tie
+use Rattle.desk_marks.proofs.empty.Statement.{statement}
 
 returns : tie.Need-returns
 unfolding marksOf emptyDesk
