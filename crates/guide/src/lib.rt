@@ -40,14 +40,26 @@ pub fn row(slot: &[u8]) -> &[u8]
     text::part_of(slot, ROW_AT, place::ROW_SIZE)
 }
 
-// The row in slot k of the guide. Behind the last slot there is only what is left of its bytes, and then nothing.
+// The bytes of slot k as far as they are there: behind the last whole slot there is only what is left, and then nothing.
+fn left_at(guide: &[u8], k: usize) -> &[u8]
+    ensures { λ r. ⌜ now r ≡ rowSlotAt (now (guide .entry)) k ⌝ }
+{
+    if k <= guide.len() / SLOT {
+        return text::part_of(guide, k * SLOT, SLOT);
+    }
+    &guide[0..0]
+}
+
+// The row in slot k of the guide. A whole slot is told apart first, as its length is then known.
 pub fn row_at(guide: &[u8], k: usize) -> &[u8]
     ensures { λ r. ⌜ now r ≡ rowOf (rowSlotAt (now (guide .entry)) k) ⌝ }
 {
-    if k <= guide.len() / SLOT {
-        return row(text::part_of(guide, k * SLOT, SLOT));
+    if k < guide.len() / SLOT {
+        let a = k * SLOT;
+        let e = a + SLOT;
+        return row(&guide[a..e]);
     }
-    &guide[0..0]
+    row(left_at(guide, k))
 }
 
 // Whether the row in a slot may be of a street: the first sixteen bytes, two words, nearly always tell two streets apart.

@@ -21,14 +21,26 @@ pub const SLOT: usize = RECORD_AT + place::RECORD_SIZE;
 // How many days a number rests before its slot may be used anew.
 const REST: u32 = 90;
 
-// Slot i of the register. Behind the last there is only what is left of its bytes, and then nothing.
-pub fn slot_at(register: &[u8], i: usize) -> &[u8]
+// The bytes of slot i as far as they are there: behind the last whole slot there is only what is left, and then nothing.
+fn left_at(register: &[u8], i: usize) -> &[u8]
     ensures { λ r. ⌜ now r ≡ slotAt (now (register .entry)) i ⌝ }
 {
     if i <= register.len() / SLOT {
         return text::part_of(register, i * SLOT, SLOT);
     }
     &register[0..0]
+}
+
+// Slot i of the register. A whole slot is told apart first: with its length known, what is read from it is read without a test.
+pub fn slot_at(register: &[u8], i: usize) -> &[u8]
+    ensures { λ r. ⌜ now r ≡ slotAt (now (register .entry)) i ⌝ }
+{
+    if i < register.len() / SLOT {
+        let a = i * SLOT;
+        let e = a + SLOT;
+        return &register[a..e];
+    }
+    left_at(register, i)
 }
 
 pub fn state(slot: &[u8]) -> u8

@@ -1,51 +1,55 @@
--- Up to the last slot k * SLOT does not wrap, and row promises the row of the part that part_of gives; above it the slot begins
--- behind the last byte, where by part-none there is nothing, and so no row in it.
+-- row promises the row of a slot's bytes: of a whole slot place-part makes the part from k * SLOT on the place itself, and of any other
+-- left_at does.
 use mathlib.Core.Path.{_∙_, ap}
-use Prim.Native.Nat.{_*_}
-use native.Mathlib.Omega.{arith}
 use borrow.Author.Needs.{needs}
-use Rattle.text.proofs.Laws.{part-none}
-use Rattle.rules.specs.Slots.{place, rowOf}
+use Rattle.rules.proofs.PlaceLaws.{place-part}
+use Rattle.rules.specs.Slots.{rowOf}
 use Rattle.guide.proofs.row_at.Statement.{statement}
 use Rattle.guide.proofs.row_at.Tie as tie
 
-mul-part-of : tie.Need-mul-part-of
-mul-part-of c = search needs
+mul-a : tie.Need-mul-a
+mul-a c = search needs
 
-part-of-requires : tie.Need-part-of-requires
-part-of-requires c κs = search needs
+add-e : tie.Need-add-e
+add-e c = search needs
+
+sub-row : tie.Need-sub-row
+sub-row c = search needs
+
+part-row-start : tie.Need-part-row-start
+part-row-start c = search needs
+
+part-row-end : tie.Need-part-row-end
+part-row-end c = search needs
 
 row-requires : tie.Need-row-requires
 row-requires c κs = search needs
 
 returns : tie.Need-returns
-unfolding place
-returns c = c .row .ensures ∙ ap rowOf (c .before .part-of .ensures)
+returns c =
+    let at-start = c .before .before .before .before .args in
+    c .row .ensures ∙ ap rowOf (place-part 208 (at-start .guide .now) (at-start .k))
 
-sub-result : tie.Need-sub-result
-sub-result c = search needs
+left-at-requires : tie.Need-left-at-requires
+left-at-requires c κs = search needs
 
-part-result-start : tie.Need-part-result-start
-part-result-start c = search needs
-
-part-result-end : tie.Need-part-result-end
-part-result-end c = search needs
+row-requires-2 : tie.Need-row-requires-2
+row-requires-2 c κs = search needs
 
 returns-2 : tie.Need-returns-2
-unfolding place rowOf
-returns-2 c =
-    let at-start = c .before .before .before .args in
-    rw (← part-none (at-start .guide .now) (at-start .k * 208) 208 (omega arith))
+returns-2 c = c .row2 .ensures ∙ ap rowOf (c .before .left-at .ensures)
 
 pub row-at-spec : {M : Type 1} → statement M
 row-at-spec =
     tie.close
     (tie.spec
-    mul-part-of
-    part-of-requires
+    mul-a
+    add-e
+    sub-row
+    part-row-start
+    part-row-end
     row-requires
     returns
-    sub-result
-    part-result-start
-    part-result-end
+    left-at-requires
+    row-requires-2
     returns-2)

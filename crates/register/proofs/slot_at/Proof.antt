@@ -1,22 +1,14 @@
--- Up to the last slot i * SLOT does not wrap, and part_of promises the place itself; above it the place begins behind the last byte,
--- where by part-none there is nothing.
-use Prim.Native.Nat.{_*_}
-use native.Mathlib.Omega.{arith}
+-- Of a whole slot place-part makes the part from a to e the place itself; of any other it is left_at's promise.
 use borrow.Author.Needs.{needs}
-use Rattle.text.proofs.Laws.{part-none}
-use Rattle.rules.specs.Slots.{place}
+use Rattle.rules.proofs.PlaceLaws.{place-part}
 use Rattle.register.proofs.slot_at.Statement.{statement}
 use Rattle.register.proofs.slot_at.Tie as tie
 
-mul-part-of : tie.Need-mul-part-of
-mul-part-of c = search needs
+mul-a : tie.Need-mul-a
+mul-a c = search needs
 
-part-of-requires : tie.Need-part-of-requires
-part-of-requires c κs = search needs
-
-returns : tie.Need-returns
-unfolding place
-returns c = c .part-of .ensures
+add-e : tie.Need-add-e
+add-e c = search needs
 
 sub-result : tie.Need-sub-result
 sub-result c = search needs
@@ -27,20 +19,24 @@ part-result-start c = search needs
 part-result-end : tie.Need-part-result-end
 part-result-end c = search needs
 
+returns : tie.Need-returns
+returns c = let at-start = c .before .before .before .args in place-part 520 (at-start .register .now) (at-start .i)
+
+left-at-requires : tie.Need-left-at-requires
+left-at-requires c κs = search needs
+
 returns-2 : tie.Need-returns-2
-unfolding place
-returns-2 c =
-    let at-start = c .before .before .before .args in
-    part-none (at-start .register .now) (at-start .i * 520) 520 (omega arith)
+returns-2 c = c .left-at .ensures
 
 pub slot-at-spec : {M : Type 1} → statement M
 slot-at-spec =
     tie.close
     (tie.spec
-    mul-part-of
-    part-of-requires
-    returns
+    mul-a
+    add-e
     sub-result
     part-result-start
     part-result-end
+    returns
+    left-at-requires
     returns-2)
