@@ -17,7 +17,7 @@ use Rattle.layout.specs.declared.frame.Opened.the-variants.{Header as aH
 use Rattle.layout.specs.declared.frame.Closed.{Closed}
 use Rattle.layout.specs.declared.frame.Closed.the-variants.{Trailer as aTrailer, Wrong as noTrailer}
 
--- where a frame's letters, date, company name, counter and `*` start, and how many bytes the first three have
+-- where a frame's letters, date, company name, counter and `*` start, and how many bytes each but the counter has
 abbrev pub commonPlaces : List ℕ → ℕ → List ℕ
 commonPlaces t counter =
     startOf t opener ∷ sizeOf t opener
