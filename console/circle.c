@@ -1,5 +1,6 @@
 /*
- * circle: an example of the whole circle, from a guide file and data files through a load file back to a register.
+ * circle: an example of the whole circle, from a guide file and data files through a load file back to a register, and
+ * of converting a register that was written before, when days counted from 010100.
  *
  *   circle            runs the circle and tells each step
  *   circle REGISTER   also writes the register to the file REGISTER, for `console` to look at
@@ -115,6 +116,13 @@ static const struct entry LATE[] = {
 /* The dispatch centre has taken no file yet, so the load file is its cycle 1. */
 static const struct heading LOAD_HEADING = {"102026", "REGISTER OFFICE", "1"};
 enum { LOAD_CYCLE = 1, NONE_YET = 0 };
+
+/*
+ * Days counted from 010100 before, which is day 10957 now. The day that was numbered 25568 is the first after 123169,
+ * the last date that can be written now. The slot to get it is that of the deleted number: a resting slot may
+ * have any day from its record's date on.
+ */
+enum { OLD_FIRST_DAY = 10957, OLD_LATE_DAY = 25568, LATE_SLOT = 2 };
 
 #define COUNT(list) (sizeof(list) / sizeof((list)[0]))
 
@@ -356,12 +364,16 @@ static uint32_t two_digits(const uint8_t *text)
     return (uint32_t)(text[0] - '0') * 10 + (uint32_t)(text[1] - '0');
 }
 
-/* The day number of MMDDYY, 010100 being day 0. From 2000 to 2099 every fourth year has a leap day. */
+/*
+ * The day number of MMDDYY, 010170 being day 0: YY 70 to 99 is 19YY, 00 to 69 is 20YY. From 1970 to 2069 every fourth
+ * year has a leap day, the first of them 1972, and these are the years whose YY has no remainder by 4.
+ */
 static uint32_t day_number(const uint8_t *date)
 {
     static const uint32_t LENGTHS[] = {31, 28, 31, 30, 31, 30, 31, 31, 30, 31, 30, 31};
     const uint32_t month = two_digits(date), day = two_digits(date + 2), year = two_digits(date + 4);
-    uint32_t number = year * 365 + (year + 3) / 4 + day - 1;
+    const uint32_t years = year >= 70 ? year - 70 : year + 30; /* since 1970 */
+    uint32_t number = years * 365 + (years + 1) / 4 + day - 1;
     for (uint32_t i = 0; i + 1 < month; i++) {
         number += LENGTHS[i];
     }
@@ -463,6 +475,69 @@ static bool load_and_back(const struct office *office)
     return good;
 }
 
+/* ---- An old register ------------------------------------------------------------------------------------------- */
+
+static void put_slot_day(uint8_t *slot, uint32_t day)
+{
+    slot[1] = (uint8_t)(day >> 24);
+    slot[2] = (uint8_t)(day >> 16);
+    slot[3] = (uint8_t)(day >> 8);
+    slot[4] = (uint8_t)day;
+}
+
+static struct lent copy(const struct lent *lent)
+{
+    struct lent same = lend(lent->length);
+    memcpy(same.bytes, lent->bytes, lent->length);
+    return same;
+}
+
+/* The register as it was written before: the same but for the days of its used slots. */
+static struct lent as_before(const struct lent *reg)
+{
+    struct lent old = copy(reg);
+    for (size_t i = 0; i < SLOTS; i++) {
+        uint8_t *slot = old.bytes + HAKKIYOLU_REGISTER_SLOT_BYTES * i;
+        if (slot[0] != HAKKIYOLU_STATE_ABSENT) {
+            put_slot_day(slot, slot_day(slot) - OLD_FIRST_DAY);
+        }
+    }
+    return old;
+}
+
+/* Converts the old register, which must then be today's in every byte. */
+static bool convert_old(const struct lent *reg)
+{
+    struct lent old = as_before(reg);
+    const struct hakkiyolu_converted converted = hakkiyolu_convert_register(old.bytes, old.length);
+    bool good = converted.refusal == HAKKIYOLU_NOT_REFUSED;
+    if (good) {
+        good = memcmp(old.bytes, reg->bytes, reg->length) == 0;
+        printf("converted an old register of %d slots: %s\n", SLOTS, good ? "same as today's" : "NOT AS TODAY'S");
+    } else {
+        printf("an old register: refused (%u), slot %u\n", (unsigned)converted.refusal, (unsigned)converted.slot);
+    }
+    free(old.bytes);
+    return good;
+}
+
+/* Converts the old register with a day that has no reading now: it must be refused by its slot, and stay as it was. */
+static bool convert_late(const struct lent *reg)
+{
+    struct lent old = as_before(reg);
+    put_slot_day(old.bytes + HAKKIYOLU_REGISTER_SLOT_BYTES * LATE_SLOT, OLD_LATE_DAY);
+    struct lent before = copy(&old);
+    const struct hakkiyolu_converted converted = hakkiyolu_convert_register(old.bytes, old.length);
+    const bool kept = memcmp(old.bytes, before.bytes, before.length) == 0;
+    const bool good = converted.refusal == HAKKIYOLU_REFUSED_DAY && converted.slot == LATE_SLOT && kept;
+    printf("a day after 2069 in slot %u: refused (%u), %s", (unsigned)converted.slot, (unsigned)converted.refusal,
+        kept ? "nothing changed" : "something changed");
+    printf(good ? "\n" : " -- NOT AS EXPECTED\n");
+    free(before.bytes);
+    free(old.bytes);
+    return good;
+}
+
 /* ---- The whole ------------------------------------------------------------------------------------------------- */
 
 /* Every step is run and told, also after one that came out otherwise: what follows helps to see why. */
@@ -475,6 +550,8 @@ static bool run_circle(struct office *office)
     good = take_entries(office, &LATE_HEADING, LATE, COUNT(LATE)) && good;
     good = show_street(&office->reg, "5035550100", "NEWCO") && good;
     good = load_and_back(office) && good;
+    good = convert_old(&office->reg) && good;
+    good = convert_late(&office->reg) && good;
     printf(good ? "the circle closes\n" : "THE CIRCLE DOES NOT CLOSE\n");
     return good;
 }

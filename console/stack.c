@@ -3,8 +3,9 @@
  *
  * A thread runs the call on a stack of our own that was painted before; the lowest word that changed tells how deep it
  * went, and the same with a call of nothing is subtracted. The stores are sound and not empty, and the files have lines
- * that are done and lines that are turned away, or a fault in the last byte of the last line: a call goes as deep as it
- * can. The caller's arguments and result are counted; what is set aside below the lowest word written is not seen.
+ * that are done and lines that are turned away, or a fault in the last byte of the last line; a register is converted,
+ * or refused for its last slot: a call goes as deep as it can. The caller's arguments and result are counted; what is
+ * set aside below the lowest word written is not seen.
  *
  * Prints `stack NAME BYTES` for each call. Exit status: 0 all are within BOUND and answered as is due, 1 one is not,
  * 3 no thread can be run or the output cannot be written.
@@ -19,6 +20,9 @@
 
 enum { BOUND = 4096, SLOTS = 8, ROWS = 3, RECORDS = 5, PAD = 4096, WORDS = 32768 };
 
+/* Old days are counted from 010100, day 10957 now. The last of them that has a reading now becomes the last day. */
+enum { OLD_FIRST_DAY = 10957, OLD_LAST_DAY = 25567, LAST_DAY = 36524 };
+
 /* The lines of a file. Each width is that of a text's field and the blank ones behind it; a record's ESN is blank. */
 #define FRAME "%-5s101026%-50s%-138s*"
 #define FRAME_OF(mark, number) mark, "MILL COUNTY", number
@@ -27,7 +31,10 @@ enum { BOUND = 4096, SLOTS = 8, ROWS = 3, RECORDS = 5, PAD = 4096, WORDS = 32768
 #define RECORD "%s%-10s%-16s%-66s%-32s%-94s%-31s%-10s%-251s*"
 #define RECORD_OF(code, number, date) code, number, "104", "MILL", "MILLBROOK", "OR", "10", date, "OLDCO"
 
-/* A call on a file or a number, and what is due of it: lines done or the fault's position; entries; slots looked at. */
+/*
+ * A call on a file, a number or a register, and what is due of it: lines done or the fault's position; entries; slots
+ * looked at; the day in the last slot, or the refusal and the slot added up.
+ */
 struct call {
     const char *name;
     uint32_t (*run)(const void *given);
@@ -38,7 +45,8 @@ struct call {
 static const uint64_t PAINT = 0xA5A5A5A5A5A5A5A5;
 static _Alignas(4096) uint64_t stack[WORDS];
 static uint8_t reg[SLOTS * HAKKIYOLU_REGISTER_SLOT_BYTES], guide[SLOTS * HAKKIYOLU_GUIDE_SLOT_BYTES], answers[RECORDS],
-    load[HAKKIYOLU_DATA_FILE_BYTES(SLOTS)];
+    load[HAKKIYOLU_DATA_FILE_BYTES(SLOTS)], old_reg[sizeof reg], late_reg[sizeof reg];
+static uint8_t *const last_slot = reg + sizeof reg - HAKKIYOLU_REGISTER_SLOT_BYTES;
 static char rows[HAKKIYOLU_GUIDE_FILE_BYTES(ROWS) + 1], bad_rows[sizeof rows],
     records[HAKKIYOLU_DATA_FILE_BYTES(RECORDS) + 1], first_records[sizeof records], bad_records[sizeof records];
 static uint32_t answered;
@@ -74,6 +82,49 @@ static uint32_t take_data(const void *file)
     return taken.done + taken.position;
 }
 
+/* The stores as each call finds them, sound and not empty; a conversion gets a register of its own. */
+static void fill_stores(void)
+{
+    memset(reg, 0, sizeof reg);
+    memset(guide, 0, sizeof guide);
+    take_guide(rows);
+    take_data(first_records);
+}
+
+/* The day number in bytes 1 to 4 of a slot, high byte first. */
+static uint32_t slot_day(const uint8_t *slot)
+{
+    return (uint32_t)slot[1] << 24 | (uint32_t)slot[2] << 16 | (uint32_t)slot[3] << 8 | slot[4];
+}
+
+static void put_slot_day(uint8_t *slot, uint32_t day)
+{
+    slot[1] = (uint8_t)(day >> 24);
+    slot[2] = (uint8_t)(day >> 16);
+    slot[3] = (uint8_t)(day >> 8);
+    slot[4] = (uint8_t)day;
+}
+
+/*
+ * The register with old days, and its first entry once more in the last slot: resting since the last day that has a
+ * reading now, and since the day after, which has none.
+ */
+static void write_registers(void)
+{
+    fill_stores();
+    memcpy(last_slot, reg, HAKKIYOLU_REGISTER_SLOT_BYTES);
+    for (uint8_t *slot = reg; slot <= last_slot; slot += HAKKIYOLU_REGISTER_SLOT_BYTES) {
+        if (slot[0] != HAKKIYOLU_STATE_ABSENT) {
+            put_slot_day(slot, slot_day(slot) - OLD_FIRST_DAY);
+        }
+    }
+    last_slot[0] = HAKKIYOLU_STATE_RESTING;
+    put_slot_day(last_slot, OLD_LAST_DAY);
+    memcpy(old_reg, reg, sizeof reg);
+    put_slot_day(last_slot, OLD_LAST_DAY + 1);
+    memcpy(late_reg, reg, sizeof reg);
+}
+
 /* The name and the date of a header are those of the load file. */
 static uint32_t write_load(const void *header)
 {
@@ -86,6 +137,13 @@ static uint32_t write_load(const void *header)
 static uint32_t lookup(const void *number)
 {
     return hakkiyolu_seen_looked(hakkiyolu_lookup(reg, sizeof reg, number, HAKKIYOLU_NUMBER_BYTES));
+}
+
+static uint32_t convert_register(const void *old)
+{
+    memcpy(reg, old, sizeof reg);
+    const struct hakkiyolu_converted converted = hakkiyolu_convert_register(reg, sizeof reg);
+    return converted.refusal == HAKKIYOLU_NOT_REFUSED ? slot_day(last_slot) : converted.refusal + converted.slot;
 }
 
 static uint32_t nothing(const void *given)
@@ -110,10 +168,7 @@ static size_t depth(struct call *call)
     pthread_attr_t own;
     pthread_t thread;
     size_t free_words = 0;
-    memset(reg, 0, sizeof reg);
-    memset(guide, 0, sizeof guide);
-    take_guide(rows);
-    take_data(first_records);
+    fill_stores();
     memset(stack, (int)(PAINT & 0xFF), sizeof stack);
     if (pthread_attr_init(&own) != 0 || pthread_attr_setstack(&own, stack, sizeof stack) != 0
         || pthread_create(&thread, &own, run_below, call) != 0 || pthread_join(thread, NULL) != 0) {
@@ -132,11 +187,13 @@ int main(void)
     struct call calls[] = {
         {"take_data", take_data, records, 3}, {"take_data_refused", take_data, bad_records, HAKKIYOLU_RECORD_BYTES},
         {"take_guide", take_guide, rows, 2}, {"take_guide_refused", take_guide, bad_rows, HAKKIYOLU_ROW_BYTES},
-        {"write_load", write_load, rows, 2}, {"lookup_hit", lookup, "5035550101", 2},
-        {"lookup_miss", lookup, "5035550199", SLOTS},
+        {"write_load", write_load, rows, 2}, {"convert_register", convert_register, old_reg, LAST_DAY},
+        {"convert_register_refused", convert_register, late_reg, HAKKIYOLU_REFUSED_DAY + SLOTS - 1},
+        {"lookup_hit", lookup, "5035550101", 2}, {"lookup_miss", lookup, "5035550199", SLOTS},
     };
     int status = 0;
     write_files();
+    write_registers();
     const size_t before = depth(&none);
     for (size_t i = 0; i < sizeof calls / sizeof calls[0]; i++) {
         const size_t bytes = depth(&calls[i]) - before;

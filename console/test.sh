@@ -93,12 +93,13 @@ int main(void)
     const struct hakkiyolu_taken data = hakkiyolu_take_data(NULL, 0, NULL, 0, NULL, 0, NULL, 0, 7);
     const struct hakkiyolu_taken guide = hakkiyolu_take_guide(NULL, 0, NULL, 0, NULL, 0, NULL, 0, 8);
     const struct hakkiyolu_loaded loaded = hakkiyolu_write_load(NULL, 0, NULL, 0, NULL, 0, 1, NULL, 0);
+    const struct hakkiyolu_converted converted = hakkiyolu_convert_register(NULL, 0);
     const int refused = hakkiyolu_seen_refusal(seen) == HAKKIYOLU_REFUSED_REGISTER
         && data.refusal == HAKKIYOLU_REFUSED_REGISTER && guide.refusal == HAKKIYOLU_REFUSED_REGISTER
-        && loaded.refusal == HAKKIYOLU_REFUSED_REGISTER;
+        && loaded.refusal == HAKKIYOLU_REFUSED_REGISTER && converted.refusal == HAKKIYOLU_REFUSED_REGISTER;
     const int rest = hakkiyolu_seen_looked(seen) == 0 && hakkiyolu_seen_slot(seen) == 0
         && hakkiyolu_seen_state(seen) == HAKKIYOLU_STATE_ABSENT && data.last == 7 && guide.last == 8
-        && data.records == 0 && guide.records == 0 && loaded.bytes == 0 && loaded.entries == 0;
+        && data.records == 0 && guide.records == 0 && loaded.bytes == 0 && loaded.entries == 0 && converted.slot == 0;
     return refused && rest ? 0 : 1;
 }
 END
@@ -141,7 +142,7 @@ builds plain gcc -O2
 builds sanitized gcc "${sanitizers[@]}"
 if command -v clang >/dev/null; then builds clang clang -O2; fi
 
-circle_says='guide file of MILL COUNTY, cycle 1: 3 done, 1 not done
+circle_says="guide file of MILL COUNTY, cycle 1: 3 done, 1 not done
   I 1 to 99 MAIN ST, B, ESN 83: done
   I 100 to 198 MILL RD, E, ESN 84: done
   I 101 to 199 MILL RD, O, ESN 85: done
@@ -168,7 +169,9 @@ load file of REGISTER OFFICE, cycle 1: 3 done, 0 not done
   slot 1, 5035550101: came back to slot 1
   slot 3, 5035550103: came back to slot 2
   the other 5 slots: free
-the circle closes'
+converted an old register of 8 slots: same as today's
+a day after 2069 in slot 2: refused (28), nothing changed
+the circle closes"
 
 no_register='refused (1): not 1 to 4096 whole slots of 520 bytes'
 no_number='refused (10): not ten digits'
@@ -271,7 +274,8 @@ fi
 quiet "stack builds" gcc -std=c11 -O2 -pthread "${warnings[@]}" "$root/console/stack.c" "$boundary" "$lookup" -o stack
 said=$(./stack 2>&1)
 status=$?
-for call in take_data take_data_refused take_guide take_guide_refused write_load lookup_hit lookup_miss; do
+for call in take_data take_data_refused take_guide take_guide_refused write_load convert_register \
+    convert_register_refused lookup_hit lookup_miss; do
     if line=$(grep -Ex "stack $call [0-9]+" <<<"$said"); then
         ok "$line"
     else

@@ -3,13 +3,15 @@
  *
  * Telephone companies send data files: who has which number, and where. Counties send guide files: street ranges with
  * their emergency zone (ESN). A take applies such a file to a register and a guide; a load file carries the register to
- * a dispatch centre; a lookup finds a number for the dispatcher's screen.
+ * a dispatch centre; a lookup finds a number for the dispatcher's screen. A register that was written when days counted
+ * from 010100 is converted once.
  *
  * The register and the guide are plain bytes that the caller owns and lends to each call. Every call answers every
  * input, however damaged: it has no error besides the numbers below.
  *
- * Libraries: hakkiyolu_lookup is in liblookup.a; hakkiyolu_take_data, hakkiyolu_take_guide and hakkiyolu_write_load are
- * in libboundary.a. Neither needs the other, and both may be linked into one program in either order.
+ * Libraries: hakkiyolu_lookup is in liblookup.a; hakkiyolu_take_data, hakkiyolu_take_guide, hakkiyolu_write_load and
+ * hakkiyolu_convert_register are in libboundary.a. Neither needs the other, and both may be linked into one program in
+ * either order.
  *
  * RULES FOR BUFFERS, the same for every call. Each buffer is a pointer and, right behind it, its length in bytes.
  *
@@ -20,7 +22,7 @@
  *   - A call uses no heap and no global state, only a few kilobytes of stack. So calls on different buffers may run in
  *     parallel, and so may calls that only read the same buffer. While a call writes to a buffer, no other call may
  *     read it: locking is the caller's.
- *   - A refused file changes no lent byte. A record that is turned away changes only its own answer byte.
+ *   - A refused call changes no lent byte. A record that is turned away changes only its own answer byte.
  *
  * Nothing but the caller's care keeps these declarations in step with the libraries: use the header and the libraries
  * of one and the same build.
@@ -38,8 +40,8 @@ extern "C" {
 /* ---- Sizes ---------------------------------------------------------------------------------------------------- */
 
 /*
- * One register slot. Byte 0 is the state, 1 to 4 the day number (high byte first), 5 to 7 are zero (a later version
- * keeps a cycle there), 8 to 519 the record.
+ * One register slot. Byte 0 is the state, 1 to 4 the day number (high byte first, counted from 010170 as 0), 5 to 7 are
+ * zero (a later version keeps a cycle there), 8 to 519 the record.
  */
 #define HAKKIYOLU_REGISTER_SLOT_BYTES 520u
 /* One guide slot. Byte 0 is 0 (free) or 1 (used), 1 to 7 are zero, 8 to 207 the row. */
@@ -67,7 +69,7 @@ extern "C" {
 
 /* A telephone number: area code and calling number, all digits, nothing between. */
 #define HAKKIYOLU_NUMBER_BYTES 10u
-/* A date: MMDDYY, a real day of 2000 to 2099. */
+/* A date: MMDDYY, a real day of 1970 to 2069 (YY 70 to 99 is 19YY, 00 to 69 is 20YY). */
 #define HAKKIYOLU_DATE_BYTES 6u
 /* A company name as the header has it: not blank, its first byte no space, filled up with spaces. */
 #define HAKKIYOLU_NAME_BYTES 50u
@@ -86,22 +88,24 @@ enum hakkiyolu_state {
 
 /*
  * Why a call was refused. The refusals of a take are tried in the order of their numbers, and the first that applies
- * is told. Those of a load file are tried in the order 1, 26, 25; those of a lookup in the order 1, 10.
+ * is told. Those of a load file are tried in the order 1, 26, 25; those of a conversion in the order 1, 28; those of a
+ * lookup in the order 1, 10.
  */
 enum hakkiyolu_refusal {
-    HAKKIYOLU_NOT_REFUSED = 0,         /* the call was done */
-    HAKKIYOLU_REFUSED_REGISTER = 1,    /* not 1 to 4096 whole register slots, or one unsound (a lookup tests no slot) */
-    HAKKIYOLU_REFUSED_GUIDE = 2,       /* not 1 to 4096 whole guide slots, or one unsound */
-    HAKKIYOLU_REFUSED_LENGTH = 3,      /* the file is not a header, 0 to 9999 whole records (or rows) and a trailer */
-    HAKKIYOLU_REFUSED_ANSWERS = 4,     /* the answers buffer is shorter than the number of records */
-    HAKKIYOLU_REFUSED_HEADER = 5,      /* the header is wrong: its mark, date, name, cycle, free part or final `*` */
-    HAKKIYOLU_REFUSED_CYCLE = 6,       /* the header's cycle does not follow `last`, or `last` is above 999999 */
-    HAKKIYOLU_REFUSED_TRAILER = 7,     /* the trailer is wrong, or its date or name is not the header's */
-    HAKKIYOLU_REFUSED_COUNT = 8,       /* the trailer's record count is not the number of records in the file */
-    HAKKIYOLU_REFUSED_RECORD = 9,      /* a record or row breaks a field rule: `place` and `position` tell where */
-    HAKKIYOLU_REFUSED_NUMBER = 10,     /* the number looked up is not ten digits */
-    HAKKIYOLU_REFUSED_OUTPUT = 25,     /* the output is too short for the load file */
-    HAKKIYOLU_REFUSED_LOAD_HEADER = 26 /* date, name or cycle wrong for a header, or the date before an entry's day */
+    HAKKIYOLU_NOT_REFUSED = 0,          /* the call was done */
+    HAKKIYOLU_REFUSED_REGISTER = 1,     /* not 1 to 4096 whole register slots, or one unsound (a lookup tests none) */
+    HAKKIYOLU_REFUSED_GUIDE = 2,        /* not 1 to 4096 whole guide slots, or one unsound */
+    HAKKIYOLU_REFUSED_LENGTH = 3,       /* the file is not a header, 0 to 9999 whole records (or rows) and a trailer */
+    HAKKIYOLU_REFUSED_ANSWERS = 4,      /* the answers buffer is shorter than the number of records */
+    HAKKIYOLU_REFUSED_HEADER = 5,       /* the header is wrong: its mark, date, name, cycle, free part or final `*` */
+    HAKKIYOLU_REFUSED_CYCLE = 6,        /* the header's cycle does not follow `last`, or `last` is above 999999 */
+    HAKKIYOLU_REFUSED_TRAILER = 7,      /* the trailer is wrong, or its date or name is not the header's */
+    HAKKIYOLU_REFUSED_COUNT = 8,        /* the trailer's record count is not the number of records in the file */
+    HAKKIYOLU_REFUSED_RECORD = 9,       /* a record or row breaks a field rule: `place` and `position` tell where */
+    HAKKIYOLU_REFUSED_NUMBER = 10,      /* the number looked up is not ten digits */
+    HAKKIYOLU_REFUSED_OUTPUT = 25,      /* the output is too short for the load file */
+    HAKKIYOLU_REFUSED_LOAD_HEADER = 26, /* date, name or cycle wrong for a header, or the date before an entry's day */
+    HAKKIYOLU_REFUSED_DAY = 28          /* a conversion: a stored day has no reading now, `slot` tells which */
 };
 
 /*
@@ -144,6 +148,12 @@ struct hakkiyolu_loaded {
     uint32_t refusal; /* 0, or the refusal 1, 25 or 26 (enum hakkiyolu_refusal) */
     uint32_t bytes;   /* how many bytes were written: the load file is that many bytes at the start of the output */
     uint32_t entries; /* how many entries, held or open, the load file has */
+};
+
+/* What converting a register returns. */
+struct hakkiyolu_converted {
+    uint32_t refusal; /* 0, or the refusal 1 or 28 (enum hakkiyolu_refusal) */
+    uint32_t slot;    /* refusal 28: the lowest slot whose day was after 2069, from 0; otherwise 0 */
 };
 
 /* ---- Calls ---------------------------------------------------------------------------------------------------- */
@@ -202,6 +212,30 @@ struct hakkiyolu_loaded hakkiyolu_write_load(
     const uint8_t *name, size_t name_length,
     uint32_t cycle,
     uint8_t *out, size_t out_length);
+
+/*
+ * Converts a register that was written before, when each year was 20YY and 010100 was day 0: adds 10957 to the day of
+ * every used slot (held, open or resting) and changes no other byte. Each such register is to be converted once, before
+ * any other call uses it. A guide has no days and stays as it is.
+ *
+ *   reg, reg_length  the register, read and written: 1 to 4096 slots of 520 bytes
+ *
+ * Refusal 1 is for the length, or a slot that is unsound by the old reading; every slot is tested before 28 is tried.
+ * Refusal 28 is for a used slot whose day was after 2069 (its number above 25567): such a day has no number now, and
+ * `slot` is the lowest such slot. Otherwise `slot` is 0. A refusal changes nothing.
+ *
+ * TWO WARNINGS. Nothing in a register tells how its days are counted. The day of a held slot is its record's date, and
+ * no date has the same number in both readings, so a register with a held slot is sound by one reading at most. But:
+ *
+ *   - A SECOND CONVERSION IS NOT ALWAYS REFUSED. With a held slot it is refused by 1. A register whose used slots are
+ *     all open or resting is sound by the old reading afterwards too: a second conversion moves its days again, or is
+ *     refused by 28 if one of them is above 25567 by then. So keep track of which registers were converted, and which
+ *     were begun since.
+ *   - A REGISTER THAT WAS NOT CONVERTED IS NOT ALWAYS REFUSED by the other calls. With a held slot the takes and the
+ *     load file refuse it by 1. One whose used slots are all open or resting may be sound by both readings: it is then
+ *     used as it stands, the day of each used slot 10957 days too early. A lookup tests no slot and reads no day.
+ */
+struct hakkiyolu_converted hakkiyolu_convert_register(uint8_t *reg, size_t reg_length);
 
 /*
  * Looks a number up: the lowest used slot that has it. Only the register's length and the number's form are tested, so
@@ -269,6 +303,9 @@ HAKKIYOLU_ASSERT(sizeof(struct hakkiyolu_loaded) == 12, "hakkiyolu_loaded has 12
 HAKKIYOLU_ASSERT(offsetof(struct hakkiyolu_loaded, refusal) == 0, "refusal is at 0");
 HAKKIYOLU_ASSERT(offsetof(struct hakkiyolu_loaded, bytes) == 4, "bytes is at 4");
 HAKKIYOLU_ASSERT(offsetof(struct hakkiyolu_loaded, entries) == 8, "entries is at 8");
+HAKKIYOLU_ASSERT(sizeof(struct hakkiyolu_converted) == 8, "hakkiyolu_converted has 8 bytes");
+HAKKIYOLU_ASSERT(offsetof(struct hakkiyolu_converted, refusal) == 0, "refusal is at 0");
+HAKKIYOLU_ASSERT(offsetof(struct hakkiyolu_converted, slot) == 4, "slot is at 4");
 #undef HAKKIYOLU_ASSERT
 #endif
 

@@ -3,7 +3,7 @@
 use crate::lent::Lent;
 use crate::subject::Subject;
 
-/// One of the four functions.
+/// One of the five functions.
 #[derive(Clone, Copy, Debug, PartialEq, Eq)]
 pub enum Op {
     /// Takes a data file.
@@ -14,11 +14,21 @@ pub enum Op {
     Lookup,
     /// Writes a load file.
     WriteLoad,
+    /// Converts a register written by the former reading.
+    ConvertRegister,
 }
 
 impl Op {
-    /// The four.
-    pub const ALL: [Op; 4] = [Op::TakeData, Op::TakeGuide, Op::Lookup, Op::WriteLoad];
+    /// How many there are.
+    pub const COUNT: usize = 5;
+    /// All of them.
+    pub const ALL: [Op; Op::COUNT] = [
+        Op::TakeData,
+        Op::TakeGuide,
+        Op::Lookup,
+        Op::WriteLoad,
+        Op::ConvertRegister,
+    ];
 
     /// The name in a calls file.
     pub fn name(self) -> &'static str {
@@ -27,6 +37,7 @@ impl Op {
             Op::TakeGuide => "take_guide",
             Op::Lookup => "lookup",
             Op::WriteLoad => "write_load",
+            Op::ConvertRegister => "convert_register",
         }
     }
 
@@ -34,7 +45,7 @@ impl Op {
     pub fn given(self) -> &'static str {
         match self {
             Op::TakeData | Op::TakeGuide => "last",
-            Op::Lookup => "",
+            Op::Lookup | Op::ConvertRegister => "",
             Op::WriteLoad => "cycle",
         }
     }
@@ -45,6 +56,7 @@ impl Op {
             Op::TakeData | Op::TakeGuide => &["register", "guide", "file", "answers"],
             Op::Lookup => &["register", "number"],
             Op::WriteLoad => &["register", "date", "name", "out"],
+            Op::ConvertRegister => &["register"],
         }
     }
 
@@ -56,6 +68,7 @@ impl Op {
             ],
             Op::Lookup => &["refusal", "state", "slot", "looked"],
             Op::WriteLoad => &["refusal", "bytes", "entries"],
+            Op::ConvertRegister => &["refusal", "slot"],
         }
     }
 }
@@ -90,6 +103,15 @@ impl Outcome {
 }
 
 impl Call {
+    /// The conversion of a register.
+    pub fn convert(register: Vec<u8>) -> Self {
+        Call {
+            op: Op::ConvertRegister,
+            given: 0,
+            lent: vec![register],
+        }
+    }
+
     /// Makes the call on guarded copies of what it lends.
     pub fn run(&self, subject: &impl Subject, shift: usize) -> Outcome {
         let mut lent: Vec<Lent> = (self.lent.iter().enumerate())
@@ -126,6 +148,10 @@ impl Call {
                 let (register, date, name) = (register.bytes(), date.bytes(), name.bytes());
                 let loaded = subject.write_load(register, date, name, given, out.bytes_mut());
                 vec![loaded.refusal, loaded.bytes, loaded.entries]
+            }
+            (Op::ConvertRegister, [register]) => {
+                let converted = subject.convert_register(register.bytes_mut());
+                vec![converted.refusal, converted.slot]
             }
             (op, lent) => panic!("{} lends {} buffers", op.name(), lent.len()),
         }

@@ -1,7 +1,9 @@
-//! How often each refusal, answer, fault position and damaged byte came up.
+//! How often each refusal, answer, fault position, damaged byte and occasion
+//! came up.
 
 use crate::call::{Call, Op, Outcome};
 use crate::model::layout::{record, row, Field, EDGE, RECORD, ROW};
+use crate::occasions::OCCASIONS;
 
 /// The parts of files that bytes are damaged in.
 #[derive(Clone, Copy, Debug, PartialEq, Eq)]
@@ -26,24 +28,26 @@ impl Part {
     ];
 }
 
-/// Refusal numbers go to 26.
-const NUMBERS: usize = 27;
+/// Refusal numbers go to 28.
+const NUMBERS: usize = 29;
 
 /// The counts.
 pub struct Coverage {
-    refusals: [[u64; NUMBERS]; 4],
-    answers: [[u64; NUMBERS]; 4],
-    faults: [[u64; RECORD + 1]; 4],
+    refusals: [[u64; NUMBERS]; Op::COUNT],
+    answers: [[u64; NUMBERS]; Op::COUNT],
+    faults: [[u64; RECORD + 1]; Op::COUNT],
     damaged: [[u64; RECORD]; 4],
+    occasions: [u64; OCCASIONS.len()],
 }
 
 impl Default for Coverage {
     fn default() -> Self {
         Coverage {
-            refusals: [[0; NUMBERS]; 4],
-            answers: [[0; NUMBERS]; 4],
-            faults: [[0; RECORD + 1]; 4],
+            refusals: [[0; NUMBERS]; Op::COUNT],
+            answers: [[0; NUMBERS]; Op::COUNT],
+            faults: [[0; RECORD + 1]; Op::COUNT],
             damaged: [[0; RECORD]; 4],
+            occasions: [0; OCCASIONS.len()],
         }
     }
 }
@@ -54,6 +58,7 @@ fn refusals(op: Op) -> &'static [usize] {
         Op::TakeData | Op::TakeGuide => &[0, 1, 2, 3, 4, 5, 6, 7, 8, 9],
         Op::Lookup => &[0, 1, 10],
         Op::WriteLoad => &[0, 1, 25, 26],
+        Op::ConvertRegister => &[0, 1, 28],
     }
 }
 
@@ -62,7 +67,7 @@ fn answers(op: Op) -> &'static [usize] {
     match op {
         Op::TakeData => &[0, 11, 12, 13, 14, 15, 16, 17, 18, 19, 20],
         Op::TakeGuide => &[0, 21, 22, 23, 24],
-        Op::Lookup | Op::WriteLoad => &[],
+        Op::Lookup | Op::WriteLoad | Op::ConvertRegister => &[],
     }
 }
 
@@ -71,7 +76,7 @@ fn fields(op: Op) -> &'static [Field] {
     match op {
         Op::TakeData => &record::FIELDS,
         Op::TakeGuide => &row::FIELDS,
-        Op::Lookup | Op::WriteLoad => &[],
+        Op::Lookup | Op::WriteLoad | Op::ConvertRegister => &[],
     }
 }
 
@@ -81,6 +86,9 @@ impl Coverage {
         let op = call.op as usize;
         let refusal = outcome.refusal() as usize;
         self.refusals[op][refusal] += 1;
+        for (count, (_, came_up)) in self.occasions.iter_mut().zip(OCCASIONS) {
+            *count += u64::from(came_up(call, outcome));
+        }
         if !matches!(call.op, Op::TakeData | Op::TakeGuide) {
             return;
         }
@@ -125,6 +133,9 @@ impl Coverage {
                 "{part:?} bytes damaged {bytes} of {length}, least often {least}"
             ));
         }
+        for (count, (name, _)) in self.occasions.iter().zip(OCCASIONS) {
+            lines.push(format!("{name}: {count}"));
+        }
         lines
     }
 
@@ -161,6 +172,9 @@ impl Coverage {
                     format!("{part:?} byte {byte}"),
                 );
             }
+        }
+        for (&count, (name, _)) in self.occasions.iter().zip(OCCASIONS) {
+            want(count, name.to_string());
         }
         missing
     }

@@ -52,6 +52,7 @@ fn texts(form: Form) -> &'static [&'static [u8]] {
         Form::Date => &[
             b"", b"022900", b"022901", b"022904", b"022800", b"030100", b"123199", b"000100",
             b"130100", b"010000", b"013200", b"043100", b"063100", b"010100", b"01010A", b" 10100",
+            b"010170", b"123169", b"022970", b"022972", b"022968", b"022969", b"123170", b"010169",
         ],
         Form::Count => &[
             b"",
@@ -224,6 +225,10 @@ pub fn damage(random: &mut Random, coverage: &mut Coverage, call: &mut Call) -> 
                 4 => cut(random, RECORD, &mut call.lent[3]),
                 _ => damage_store(random, coverage, Op::TakeData, &mut call.lent[0]),
             }
+            false
+        }
+        Op::ConvertRegister => {
+            damage_store(random, coverage, Op::TakeData, &mut call.lent[0]);
             false
         }
     }

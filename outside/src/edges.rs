@@ -3,14 +3,18 @@
 use crate::call::{Call, Op, Outcome};
 use crate::damage::LASTS;
 use crate::explore::{Explorer, Finding};
-use crate::gen::{file, next_cycle, World};
+use crate::gen::{file, next_cycle, World, EDGE_DATES};
+use crate::model::convert_register;
 use crate::model::layout::{GUIDE_SLOT, MOST_SLOTS, RECORD, REGISTER_SLOT};
+use crate::model::Described;
 use crate::subject::Subject;
 
 /// Sizes of stores.
 const SLOTS: [usize; 4] = [1, 2, 64, MOST_SLOTS];
 /// Sizes of files.
 const RECORDS: [usize; 5] = [0, 1, 127, 9999, 10_000];
+/// No entry is later.
+const LAST_DATE: &[u8; 6] = b"123169";
 
 /// A take of this world's with the file given.
 fn take(world: &World, op: Op, file: Vec<u8>, answers: usize) -> Call {
@@ -36,8 +40,9 @@ impl<A: Subject, B: Subject> Explorer<'_, A, B> {
             self.store_lengths(&world)?;
             self.lookups(&world)?;
             self.load_files(&mut world)?;
+            self.conversions(&mut world)?;
         }
-        Ok(())
+        self.centuries()
     }
 
     /// Guide and data files of every size, with answers buffers that just hold
@@ -81,7 +86,7 @@ impl<A: Subject, B: Subject> Explorer<'_, A, B> {
                 let now = world.guide.len() / GUIDE_SLOT * slot;
                 let most = MOST_SLOTS * slot;
                 for length in [0, 1, now - 1, now + 1, most, most + slot] {
-                    let empty = file(b"123199", 1, b"", 0);
+                    let empty = file(LAST_DATE, 1, b"", 0);
                     let mut call = take(world, op, empty, 0);
                     call.given = 0;
                     call.lent[store].resize(length, 0);
@@ -129,7 +134,7 @@ impl<A: Subject, B: Subject> Explorer<'_, A, B> {
     /// changes.
     fn load_files(&mut self, world: &mut World) -> Result<(), Finding> {
         let mut call = world.write_load();
-        call.lent[1] = b"123199".to_vec();
+        call.lent[1] = LAST_DATE.to_vec();
         call.given = 1;
         let slots = world.register.len() / REGISTER_SLOT;
         call.lent[3].resize(400 + slots * RECORD, 0x55);
@@ -142,6 +147,31 @@ impl<A: Subject, B: Subject> Explorer<'_, A, B> {
         for cycle in LASTS {
             call.given = cycle;
             self.compare(&call, 11)?;
+        }
+        call.given = 1;
+        for date in EDGE_DATES {
+            call.lent[1] = date.to_vec();
+            self.compare(&call, 12)?;
+        }
+        Ok(())
+    }
+
+    /// Registers of before, one converted already and this world's own, each
+    /// whole and of a wrong length: a byte or a slot off, none, one too many.
+    fn conversions(&mut self, world: &mut World) -> Result<(), Finding> {
+        let slots = world.register.len() / REGISTER_SLOT;
+        let old = world.old_register_of(slots);
+        let mut converted = old.clone();
+        convert_register::<Described>(&mut converted);
+        let own = world.register.clone();
+        for register in [old, converted, own] {
+            let now = register.len();
+            let most = MOST_SLOTS * REGISTER_SLOT;
+            for length in [now, now - 1, now + 1, 0, 1, 519, 520, 521, most, most + 520] {
+                let mut lent = register.clone();
+                lent.resize(length, 0);
+                self.compare(&Call::convert(lent), length)?;
+            }
         }
         Ok(())
     }

@@ -5,12 +5,14 @@ use crate::coverage::Coverage;
 use crate::damage::damage;
 use crate::demands::{round_trip, History};
 use crate::gen::World;
+use crate::model::convert::LAST_FORMER_DAY;
+use crate::model::date::LAST_DAY;
 use crate::model::layout::REGISTER_SLOT;
 use crate::model::store::{guide_sound, register_sound};
-use crate::model::Described;
+use crate::model::{Described, Former};
 use crate::random::Random;
 use crate::shrink::shrink;
-use crate::subject::Subject;
+use crate::subject::{Model, Subject};
 use crate::vectors::line;
 
 /// A difference, or a demand that a run did not keep.
@@ -19,6 +21,14 @@ pub struct Finding {
     pub what: String,
     /// The call, as a line of a calls file, with what was expected.
     pub line: String,
+}
+
+/// A demand that a run did not keep after this call.
+fn not_kept(what: &str, seed: u64, call: &Call, outcome: &Outcome) -> Finding {
+    Finding {
+        what: format!("{what} (run {seed})"),
+        line: line(call, outcome, "demand"),
+    }
 }
 
 /// Calls compared so far and what they covered.
@@ -68,11 +78,16 @@ impl<'a, A: Subject, B: Subject> Explorer<'a, A, B> {
         }
     }
 
-    /// One run from empty stores.
+    /// One run, from empty stores or from a register that is converted first.
     pub fn run(&mut self, seed: u64) -> Result<(), Finding> {
-        let mut world = World::new(seed);
         let mut random = Random::new(!seed);
-        let mut history = History::default();
+        let old = if random.chance(20) {
+            self.old_run(seed, &mut random)?
+        } else {
+            None
+        };
+        let (mut world, mut history) =
+            old.unwrap_or_else(|| (World::new(seed), History::default()));
         let small = world.register.len() <= 64 * REGISTER_SLOT;
         for left in (0..random.between(4, 40)).rev() {
             let (mut call, whole) = self.next_call(&mut world, &mut random);
@@ -87,20 +102,52 @@ impl<'a, A: Subject, B: Subject> Explorer<'a, A, B> {
             if small && goes_on || left == 0 {
                 kept = kept.and_then(|()| self.demands(&history, &world));
             }
-            kept.map_err(|what| Finding {
-                what: format!("{what} (run {seed})"),
-                line: line(&call, &outcome, "demand"),
-            })?;
+            kept.map_err(|what| not_kept(&what, seed, &call, &outcome))?;
         }
         Ok(())
     }
 
+    /// A run of before: files taken by the model under the former reading, then
+    /// the conversion, which is compared and must leave what the history says.
+    /// None if it is refused.
+    fn old_run(
+        &mut self,
+        seed: u64,
+        random: &mut Random,
+    ) -> Result<Option<(World, History)>, Finding> {
+        let last_day = random.pick(&[LAST_FORMER_DAY, LAST_DAY]);
+        let mut world = World::new(seed).into_old(last_day);
+        let mut history = History::default();
+        for turn in 0..random.between(2, 10) {
+            let call = if turn == 0 || random.chance(25) {
+                world.take_guide()
+            } else {
+                world.take_data()
+            };
+            let outcome = call.run(&Model::<Former<Described>>::new(), 0);
+            world.adopt(call.op, &outcome.returned, &outcome.lent);
+            history
+                .note(&call, &outcome)
+                .map_err(|what| not_kept(&what, seed, &call, &outcome))?;
+        }
+        let call = Call::convert(world.register.clone());
+        let outcome = self.compare(&call, random.below(64))?;
+        if outcome.refusal() != 0 {
+            return Ok(None);
+        }
+        world.renew(&outcome.lent[0]);
+        self.demands(&history, &world)
+            .map_err(|what| not_kept(&what, seed, &call, &outcome))?;
+        Ok(Some((world, history)))
+    }
+
     /// A call for the world as it is, and whether it is left undamaged.
     fn next_call(&mut self, world: &mut World, random: &mut Random) -> (Call, bool) {
-        let call = match random.below(16) {
+        let call = match random.below(18) {
             0..=3 => world.take_guide(),
             4 | 5 => world.lookup(),
             6 | 7 => world.write_load(),
+            8 | 9 => world.convert(),
             _ => world.take_data(),
         };
         // Runs get far only if most takes of theirs are accepted.

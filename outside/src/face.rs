@@ -1,6 +1,6 @@
 //! A safe face of the compiled static libraries. The only file with `unsafe`.
 
-use crate::model::{Found, Loaded, Taken};
+use crate::model::{Converted, Found, Loaded, Taken};
 use crate::subject::Subject;
 
 extern "C" {
@@ -39,6 +39,8 @@ extern "C" {
         out: *mut u8,
         out_length: usize,
     ) -> Loaded;
+
+    fn hakkiyolu_convert_register(register: *mut u8, register_length: usize) -> Converted;
 
     fn hakkiyolu_lookup(
         register: *const u8,
@@ -148,6 +150,10 @@ impl Subject for Library {
                 out.len(),
             )
         }
+    }
+
+    fn convert_register(&self, register: &mut [u8]) -> Converted {
+        unsafe { hakkiyolu_convert_register(start_mut(register), register.len()) }
     }
 }
 

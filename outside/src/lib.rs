@@ -3,8 +3,10 @@
 
 pub mod arguments;
 pub mod call;
+pub mod centuries;
 pub mod coverage;
 pub mod damage;
+pub mod dates;
 pub mod demands;
 pub mod deskgen;
 pub mod edges;
@@ -13,6 +15,7 @@ pub mod face;
 pub mod gen;
 pub mod lent;
 pub mod model;
+pub mod occasions;
 pub mod random;
 pub mod shrink;
 pub mod subject;

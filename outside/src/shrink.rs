@@ -79,3 +79,25 @@ fn spare(best: &mut Call, place: usize, shape: &Shape, differs: &impl Fn(&Call) 
         parts /= 2;
     }
 }
+
+#[cfg(test)]
+mod tests {
+    use super::*;
+    use crate::gen::World;
+    use crate::model::rules::{Described, RestingForgotten};
+    use crate::subject::Model;
+
+    #[test]
+    fn a_conversion_shrinks_to_the_slot_that_differs() {
+        let differs = |call: &Call| {
+            let expected = call.run(&Model::<Described>::new(), 0);
+            let got = call.run(&Model::<RestingForgotten>::new(), 0);
+            call.difference(&expected, &got).is_some()
+        };
+        let mut world = World::sized(1, 1, 1);
+        let mut calls = (0..100).map(|_| Call::convert(world.old_register_of(64)));
+        let large = calls.find(differs).expect("a resting slot is converted");
+        let small = shrink(&large, differs);
+        assert_eq!((small.lent[0].len(), small.lent[0][0]), (REGISTER_SLOT, 3));
+    }
+}

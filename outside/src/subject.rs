@@ -1,9 +1,9 @@
 //! What is compared: the model under some rules, or the compiled library.
 
-use crate::model::{self, Found, Loaded, Rules, Taken};
+use crate::model::{self, Converted, Found, Loaded, Rules, Taken};
 use std::marker::PhantomData;
 
-/// The four functions.
+/// The five functions.
 pub trait Subject {
     /// Takes a data file.
     fn take_data(
@@ -37,6 +37,9 @@ pub trait Subject {
         cycle: u32,
         out: &mut [u8],
     ) -> Loaded;
+
+    /// Converts a register written by the former reading.
+    fn convert_register(&self, register: &mut [u8]) -> Converted;
 }
 
 /// The model under these rules.
@@ -91,5 +94,9 @@ impl<R: Rules> Subject for Model<R> {
         out: &mut [u8],
     ) -> Loaded {
         model::write_load::<R>(register, date, name, cycle, out)
+    }
+
+    fn convert_register(&self, register: &mut [u8]) -> Converted {
+        model::convert_register::<R>(register)
     }
 }

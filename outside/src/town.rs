@@ -2,7 +2,7 @@
 
 use crate::gen::{file, put};
 use crate::model::layout::{record, row, GUIDE_SLOT, RECORD, REGISTER_SLOT, ROW, SLOT_HEAD};
-use crate::model::{take_data, take_guide, Described};
+use crate::model::{take_data, take_guide, Described, Former, Rules};
 
 /// Rows of one street.
 const ROWS_A_STREET: usize = 64;
@@ -55,7 +55,7 @@ fn row_at(index: usize) -> [u8; ROW] {
 }
 
 /// A record of this code for number `index`, at a house of one of `rows`.
-fn record_at(code: u8, index: usize, rows: usize, company: &[u8], date: &[u8]) -> [u8; RECORD] {
+pub fn record_at(code: u8, index: usize, rows: usize, company: &[u8], date: &[u8]) -> [u8; RECORD] {
     let mut whole = [b' '; RECORD];
     let at = index * STRIDE % rows;
     put(&mut whole, record::FUNCTION, &[code]);
@@ -100,12 +100,22 @@ pub fn guide(rows: usize) -> Vec<u8> {
 
 /// A full register under that guide.
 pub fn register(slots: usize, guide: &[u8]) -> Vec<u8> {
+    filled::<Described>(slots, guide)
+}
+
+/// The same as it was written by the former reading.
+pub fn old_register(slots: usize, guide: &[u8]) -> Vec<u8> {
+    filled::<Former<Described>>(slots, guide)
+}
+
+/// A register that one file fills.
+fn filled<R: Rules>(slots: usize, guide: &[u8]) -> Vec<u8> {
     let rows = guide.len() / GUIDE_SLOT;
     let all = (0..slots).flat_map(|index| record_at(b'I', index, rows, b"ABC", b"010124"));
     let all = file(b"010124", 1, &all.collect::<Vec<u8>>(), slots);
     let mut register = vec![0; slots * REGISTER_SLOT];
     let mut answers = vec![0; slots];
-    let taken = take_data::<Described>(&mut register, guide, &all, &mut answers, 0);
+    let taken = take_data::<R>(&mut register, guide, &all, &mut answers, 0);
     assert_eq!(taken.done as usize, slots);
     assert!(register[(slots - 1) * REGISTER_SLOT + SLOT_HEAD] == b'I');
     register

@@ -1,7 +1,9 @@
 //! Reading and writing calls as lines:
 //! `OP inputs -> results # kind of case`, bytes in hexadecimal with `(HEX*N)`.
+//! A line of OP `date` is no call: it tells the day number of a date, or None.
 
 use crate::call::{Call, Op, Outcome};
+use crate::model::date::Day;
 use crate::model::desk::{from_hex, put_hex};
 use std::collections::HashMap;
 
@@ -49,6 +51,17 @@ pub fn parse(line: &str) -> Option<Vector> {
         expected,
         kind: kind.to_string(),
     })
+}
+
+/// Reads one line of OP `date`: the date and its day.
+pub fn parse_date(line: &str) -> Option<(Vec<u8>, Option<Day>)> {
+    let (line, _) = line.split_once(" # ").unwrap_or((line, ""));
+    let (inputs, results) = line.strip_prefix("date ")?.split_once(" ->")?;
+    let day = match *words(results)?.get("day")? {
+        "None" => None,
+        number => Some(Day(number.parse().ok()?)),
+    };
+    Some((bytes(words(inputs)?.get("date")?)?, day))
 }
 
 fn words(text: &str) -> Option<HashMap<&str, &str>> {
@@ -128,6 +141,7 @@ mod tests {
             world.take_data(),
             world.lookup(),
             world.write_load(),
+            world.convert(),
         ];
         for call in calls {
             let outcome = call.run(&Model::<Described>::new(), 0);
@@ -136,5 +150,15 @@ mod tests {
             assert_eq!((read.expected, read.call.given), (outcome, call.given));
             assert_eq!(read.kind, "kind");
         }
+    }
+
+    #[test]
+    fn a_date_and_its_day_are_read() {
+        let good = parse_date("date date=303130313730 -> day=0 date=same # kind");
+        assert_eq!(good, Some((b"010170".to_vec(), Some(Day(0)))));
+        let bad = parse_date("date date=(20*6) -> day=None date=same # ");
+        assert_eq!(bad, Some((b"      ".to_vec(), None)));
+        assert!(parse_date("lookup register= number= -> day=0").is_none());
+        assert!(parse("date date=303130313730 -> day=0 date=same # kind").is_none());
     }
 }

@@ -4,6 +4,7 @@
 use outside::explore::Explorer;
 use outside::model::rules::{
     ClashWithoutParity, Described, NinetyOneDays, NoCycleWrap, NoLeapYear, NoLeftJustify,
+    PivotOneOff, RestingForgotten,
 };
 use outside::model::Rules;
 use outside::random::Random;
@@ -44,4 +45,6 @@ fn every_fault_is_seen() {
     assert!(is_seen::<NoLeftJustify>());
     assert!(is_seen::<NoLeapYear>());
     assert!(is_seen::<NoCycleWrap>());
+    assert!(is_seen::<PivotOneOff>());
+    assert!(is_seen::<RestingForgotten>());
 }

@@ -1,6 +1,8 @@
-// The C face of the takes and the load file: nothing but calls.
+// The C face of the takes, the load file and the conversion: nothing but calls.
 ghost use Rattle.rules.specs.Takes.{TakesData, TakesGuide};
 ghost use Rattle.rules.specs.Loads.{WritesLoad};
+ghost use Rattle.rules.specs.Converts.{Converts};
+use rules::Converted;
 use rules::Loaded;
 use rules::Taken;
 
@@ -41,4 +43,11 @@ pub extern "C" fn hakkiyolu_write_load(
     ensures { λ r. ⌜ WritesLoad (now (register .entry)) (now (date .entry)) (now (name .entry)) cycle (now (out .entry)) r (now (out .exit)) ⌝ }
 {
     loading::write_load(register, date, name, cycle, &mut out[..])
+}
+
+#[no_mangle]
+pub extern "C" fn hakkiyolu_convert_register(register: &mut [u8]) -> Converted
+    ensures { λ r. ⌜ Converts (now (register .entry)) r (now (register .exit)) ⌝ }
+{
+    converting::convert(&mut register[..])
 }

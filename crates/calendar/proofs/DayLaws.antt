@@ -2,13 +2,13 @@
 -- counted by a sum or by a difference; the four bytes of a day read back as that day. Assumes nothing.
 use mathlib.Core.Path.{_≡_, refl, _∙_, sym, ap}
 use mathlib.Core.List.{List, [], _∷_}
-use mathlib.Core.Bool.{Bool, true, false, _&&_}
+use mathlib.Core.Bool.{Bool, true, false, _&&_, cond}
 use Prim.Native.Nat.{ℕ, zero, suc, _+_, _*_, _-_, _/_, _%_, _≤_, _<_}
 use native.Mathlib.Nat.{div-div-eq-div-mul, div-add-mod', mod-eq-of-lt}
 use native.Mathlib.Omega.{arith}
 use lib.Dec.{leb, eqb}
 use lib.ListN.{getD}
-use borrow.Author.Tests.{eqb-true, eqb-false, leb-true, leb-false, le-leb, lt-leb}
+use borrow.Author.Tests.{eqb-true, eqb-false, ne-eqb, leb-true, leb-false, le-leb, lt-leb}
 use Rattle.text.proofs.Laws.{and-left, and-right}
 use Rattle.calendar.specs.Calendar.{dayNumber, monthDays, months, storedDay}
 
@@ -32,9 +32,9 @@ every-at p (suc n) k e h =
 abbrev followsIn : ℕ → ℕ → Bool
 followsIn y k = eqb (dayNumber (k + 2) 1 y) (dayNumber (k + 1) 1 y + monthDays (k + 1) y)
 
--- from the first of December to the first of January
+-- from the first of December to the first of January; the year after 99 is 00, and behind the last, 69, day 36525 would come
 abbrev followsYear : ℕ → Bool
-followsYear y = eqb (dayNumber 1 1 (y + 1)) (dayNumber 12 1 y + monthDays 12 y)
+followsYear y = eqb (cond (eqb y 69) 36525 (dayNumber 1 1 ((y + 1) % 100))) (dayNumber 12 1 y + monthDays 12 y)
 
 abbrev agrees : ℕ → Bool
 agrees y = every (followsIn y) 11 && followsYear y
@@ -54,11 +54,11 @@ next-month m y a b c =
     (every-at (followsIn y) 11 (m - 1) (and-left (every (followsIn y) 11) (followsYear y) (every-at agrees 100 y agree k)) h))
 
 -- and the first of January so many days after the first of December
-pub next-year : (y : ℕ) → y ≤ 99 → dayNumber 1 1 (y + 1) ≡ dayNumber 12 1 y + monthDays 12 y
-next-year y c =
+pub next-year : (y : ℕ) → y ≤ 99 → (y ≡ 69 → ⊥) → dayNumber 1 1 ((y + 1) % 100) ≡ dayNumber 12 1 y + monthDays 12 y
+next-year y c n =
     let k : y < 100 = omega arith in
-    eqb-true (dayNumber 1 1 (y + 1)) (dayNumber 12 1 y + monthDays 12 y)
-    (and-right (every (followsIn y) 11) (followsYear y) (every-at agrees 100 y agree k))
+    let e = and-right (every (followsIn y) 11) (followsYear y) (every-at agrees 100 y agree k) in
+    eqb-true (dayNumber 1 1 ((y + 1) % 100)) (dayNumber 12 1 y + monthDays 12 y) (rw (ne-eqb y 69 n) at e)
 
 -- ---- the longest month
 

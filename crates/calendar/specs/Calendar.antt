@@ -1,4 +1,4 @@
--- 01, "Dates": the day that six bytes name, and the four bytes of a slot's day.
+-- 01, "Dates", with the years as 2026-02 reads them: the day that six bytes name, and the four bytes of a slot's day.
 -- Assumes nothing.
 use Prim.Native.Nat.{ℕ, _+_, _*_, _-_, _/_, _%_}
 use mathlib.Core.List.{List, [], _∷_}
@@ -14,35 +14,41 @@ use Rattle.calendar.specs.declared.Date.the-variants.{Day as aDay, NoDat
 abbrev pub months : List ℕ
 months = 31 ∷ 28 ∷ 31 ∷ 30 ∷ 31 ∷ 30 ∷ 31 ∷ 31 ∷ 30 ∷ 31 ∷ 30 ∷ 31 ∷ []
 
--- of the years 2000 to 2099, every fourth is a leap year
+-- of the years 1970 to 2069, every fourth is a leap year, 2000 among them: those whose two digits 4 divides
 abbrev pub leap : ℕ → Bool
 leap y = eqb (y % 4) 0
 
 abbrev pub monthDays : ℕ → ℕ → ℕ
 monthDays m y = cond (eqb m 2 && leap y) 29 (getD months (m - 1) 0)
 
--- "real calendar days, year 20YY": month, day, and the year's last two digits
+-- "real calendar days": month, day, and the year's last two digits
 abbrev pub isDay : ℕ → ℕ → ℕ → Bool
 isDay m d y = leb y 99 && (leb 1 m && (leb m 12 && (leb 1 d && leb d (monthDays m y))))
 
--- "The day number counts from 010100 as 0, by a plain formula of the three numbers": the days of the years before, of the
--- months before, and of the month
+-- "YY 70 to 99 means 19YY and 00 to 69 means 20YY": the years since 1970
+abbrev pub yearsOf : ℕ → ℕ
+yearsOf y = cond (leb 70 y) (y - 70) (y + 30)
+
+-- "day 0 is 010170", "by a plain formula of the three numbers": the days of the years before, of the months before, and of the month
 abbrev pub dayNumber : ℕ → ℕ → ℕ → ℕ
 dayNumber m d y =
-    365 * y + (y + 3) / 4 + (367 * m - 362) / 12 - cond (leb m 2) 0 (cond (leap y) 1 2) + d - 1
+    365 * yearsOf y + (yearsOf y + 1) / 4 + (367 * m - 362) / 12 - cond (leb m 2) 0 (cond (leap y) 1 2) + d - 1
 
 abbrev pub dayFrom : ℕ → ℕ → ℕ → Date
 dayFrom m d y = cond (isDay m d y) (aDay (record { 0 = dayNumber m d y })) NoDate
 
--- "Dates are MMDDYY"
-unfoldable pub dayOf : List ℕ → Date
-dayOf f =
+-- "Dates are MMDDYY": what is made of the three numbers
+abbrev pub dated : (ℕ → ℕ → ℕ → Date) → List ℕ → Date
+dated from f =
     cond (eqb (length f) 6)
     (onNumber (spelled 2 2 (part 0 2 f)) NoDate (λ m.
     onNumber (spelled 2 2 (part 2 2 f)) NoDate (λ d.
     onNumber (spelled 2 2 (part 4 2 f)) NoDate (λ y.
-    dayFrom m d y))))
+    from m d y))))
     NoDate
+
+unfoldable pub dayOf : List ℕ → Date
+dayOf f = dated dayFrom f
 
 -- what is made of the day, or what stands where there is no date
 abbrev pub onDay : {A : Type 0} → Date → A → (Day → A) → A

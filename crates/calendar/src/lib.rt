@@ -1,13 +1,14 @@
-// The days of the years 2000 to 2099: named by six bytes MMDDYY, counted from 010100 as 0, and kept in four bytes of a slot.
+// The days of the years 1970 to 2069: named by six bytes MMDDYY, counted from 010170 as 0, and kept in four bytes of a slot.
 // Nothing outside this crate knows the formula.
 ghost use mathlib.Core.Path.{_≡_};
 ghost use mathlib.Core.Bool.{true};
 ghost use Prim.Native.Nat.{_≤_};
-ghost use Rattle.calendar.specs.Calendar.{leap, monthDays, dayNumber, dayFrom, dayOf, noLater};
+ghost use Rattle.calendar.specs.Calendar.{leap, monthDays, yearsOf, dayNumber, dayFrom, dayOf, noLater};
 ghost use Rattle.calendar.specs.Calendar.{storedDay, dayBytes, isBefore, isPast, onCalendar};
+ghost use Rattle.calendar.specs.Former.{dayBy, formerly, anew};
 use text::Spelled;
 
-// A day number. It is made only where a date field or the four bytes of a slot are read.
+// A day number. It is made only where a date field or the four bytes of a slot are read, or a stored day is counted anew.
 pub struct Day(u32);
 
 // A day number in a slot, the high byte first.
@@ -19,11 +20,30 @@ pub enum Date {
     NoDate,
 }
 
+// How dates are read: as now, or as they were before, when each year was 20YY and 010100 was day 0.
+pub enum Reading {
+    Present,
+    Former,
+}
+
 // The lengths of the twelve months, in a year that is no leap year.
 const MONTHS: [u32; 12] = [31, 28, 31, 30, 31, 30, 31, 31, 30, 31, 30, 31];
 
-// 123199.
+// 123169.
 const LAST: u32 = 36524;
+
+// The first year, and how many years it lies before 2000.
+const FIRST_YEAR: u32 = 70;
+
+const BEFORE_2000: u32 = 100 - FIRST_YEAR;
+
+// 010100, which was day 0 before.
+const DAY_2000: u32 = 10957;
+
+// What 123169 was before: the last of the days counted then that has a reading now. The next was 010170, now the first day.
+const FORMER_LAST: u32 = 25567;
+
+const FORMER_FIRST: u32 = FORMER_LAST + 1;
 
 // MMDDYY.
 const DATE_SIZE: usize = 6;
@@ -47,11 +67,23 @@ fn month_days(m: u32, y: u32) -> u32
     MONTHS[k]
 }
 
+// The years since 1970.
+fn years_of(y: u32) -> u32
+    requires { ⌜ y ≤ 99 ⌝ }
+    ensures { λ r. ⌜ (r ≡ yearsOf y) × (r ≤ 99) ⌝ }
+{
+    if FIRST_YEAR <= y {
+        return y - FIRST_YEAR;
+    }
+    y + BEFORE_2000
+}
+
 fn day_number(m: u32, d: u32, y: u32) -> u32
     requires { ⌜ (1 ≤ m) × (m ≤ 12) × (1 ≤ d) × (d ≤ 31) × (y ≤ 99) ⌝ }
     ensures { λ r. ⌜ (r ≡ dayNumber m d y) × (r ≤ 36524) ⌝ }
 {
-    let years = 365 * y + (y + 3) / 4;
+    let z = years_of(y);
+    let years = 365 * z + (z + 1) / 4;
     let months = (367 * m - 362) / 12;
     if m <= 2 {
         return years + months + d - 1;
@@ -102,7 +134,41 @@ pub fn day_in(f: &[u8]) -> Date
     day_from(m, d, y)
 }
 
+// The number that a day had before.
+fn former_number(n: u32) -> u32
+    requires { ⌜ n ≤ 36524 ⌝ }
+    ensures { λ r. ⌜ (r ≡ formerly n) × (r ≤ 36524) ⌝ }
+{
+    if DAY_2000 <= n {
+        return n - DAY_2000;
+    }
+    n + FORMER_FIRST
+}
+
+// The day that six bytes name by a reading: they are read in one way, and the number that the day had before is told from it.
+pub fn day_by(reading: Reading, f: &[u8]) -> Date
+    ensures { λ r. ⌜ (r ≡ dayBy reading (now (f .entry))) × (noLater r ≡ true) ⌝ }
+{
+    let Date::Day(day) = day_in(f) else {
+        return Date::NoDate;
+    };
+    match reading {
+        Reading::Present => Date::Day(day),
+        Reading::Former => Date::Day(Day(former_number(day.0))),
+    }
+}
+
 impl Day {
+    // What a day that was stored before is now, if it has a reading.
+    pub fn anew(self) -> Date
+        ensures { λ r. ⌜ r ≡ anew self ⌝ }
+    {
+        if self.0 <= FORMER_LAST {
+            return Date::Day(Day(self.0 + DAY_2000));
+        }
+        Date::NoDate
+    }
+
     // The day of a slot, from its four bytes, the high byte first.
     pub fn stored(a: u8, b: u8, c: u8, d: u8) -> Day
         ensures { λ r. ⌜ r ≡ storedDay a b c d ⌝ }

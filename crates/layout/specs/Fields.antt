@@ -9,7 +9,10 @@ use lib.ListN.{getD}
 use Rattle.text.specs.declared.Spelled.{Spelled}
 use Rattle.text.specs.Text.{blank, spelled, sameBytes, part, putAt}
 use Rattle.calendar.specs.declared.Date.{Date}
+use Rattle.calendar.specs.declared.Reading.{Reading}
+use Rattle.calendar.specs.declared.Reading.the-variants.{Present, Former}
 use Rattle.calendar.specs.Calendar.{dayOf}
+use Rattle.calendar.specs.Former.{formerOf}
 use Rattle.layout.specs.Tables.{dataRecord, guideRow, startOf, sizeOf, sizesFrom, field, span}
 use Rattle.layout.specs.Tables.{function, npa, callingNumber, houseNumber, prefix, post, community, state, esn, date, companyId, source}
 use Rattle.layout.specs.Tables.{rowPrefix, rowPost, low, high, rowCommunity, rowState, parity, rowEsn, rowFunction}
@@ -49,6 +52,11 @@ sameEsn a b = sameBytes a b
 
 unfoldable pub dateOf : List ℕ → Date
 dateOf r = dayOf (field dataRecord date r)
+
+-- the same, by either reading
+abbrev pub dateBy : Reading → List ℕ → Date
+dateBy Present r = dateOf r
+dateBy Former r = formerOf (field dataRecord date r)
 
 unfoldable pub companyOf : List ℕ → List ℕ
 companyOf r = field dataRecord companyId r

@@ -1,11 +1,12 @@
 // What is read from a record or a row, and what is written into one. A line that is too short gives what of the field
 // there is, and 0 for a field of one byte.
 ghost use mathlib.Core.Path.{_≡_};
-ghost use Rattle.layout.specs.Fields.{functionOf, numberOf, houseIn, houseOf, streetOf, placeOf, esnOf, hasEsn, sameEsn, dateOf, companyOf};
+ghost use Rattle.layout.specs.Fields.{functionOf, numberOf, houseIn, houseOf, streetOf, placeOf, esnOf, hasEsn, sameEsn, dateOf, dateBy, companyOf};
 ghost use Rattle.layout.specs.Fields.{rowStreetOf, rowPlaceOf, endIn, lowOf, highOf, parityOf, allows, rowEsnOf, rowFunctionOf};
 ghost use Rattle.layout.specs.Fields.{withEsn, forLoad};
 use crate::place;
 use calendar::Date;
+use calendar::Reading;
 use text::Spelled;
 
 pub fn function(rec: &[u8]) -> u8
@@ -75,6 +76,16 @@ pub fn date(rec: &[u8]) -> Date
     ensures { λ r. ⌜ r ≡ dateOf (now (rec .entry)) ⌝ }
 {
     calendar::day_in(text::part_of(rec, place::DATE_AT, place::DATE_SIZE))
+}
+
+// The same, by a reading.
+pub fn date_by(reading: Reading, rec: &[u8]) -> Date
+    ensures { λ r. ⌜ r ≡ dateBy reading (now (rec .entry)) ⌝ }
+{
+    calendar::day_by(
+        reading,
+        text::part_of(rec, place::DATE_AT, place::DATE_SIZE),
+    )
 }
 
 pub fn company(rec: &[u8]) -> &[u8]

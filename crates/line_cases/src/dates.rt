@@ -14,10 +14,10 @@ fn dates(list: &[u8]) {
 }
 
 pub fn run() {
-    // The ends of the calendar, and the leap days in it.
+    // The ends of the calendar and of its two centuries, and the leap days in it.
     dates(
-        b"010100|022800|022900|030100|123100|010101|022801|022901|030101|022904|030104|\
-        022996|022999|123199",
+        b"010170|123170|022970|022972|030172|022996|022999|123199|010100|022800|022900|030100|123100|\
+        010101|022801|022901|030101|022904|030104|022968|123168|022969|123169",
     );
     // The last day of each month, and the one that it has not.
     dates(

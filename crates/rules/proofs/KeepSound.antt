@@ -14,11 +14,14 @@ use Rattle.text.proofs.Laws.{and-left, and-right}
 use Rattle.calendar.specs.declared.Day.{Day}
 use Rattle.calendar.specs.declared.Date.{Date}
 use Rattle.calendar.specs.declared.Date.the-variants.{Day as aDay, NoDate}
+use Rattle.calendar.specs.declared.Reading.{Reading}
+use Rattle.calendar.specs.declared.Reading.the-variants.{Present}
 use Rattle.calendar.specs.Calendar.{onDay, onCalendar, noLater, isBefore}
+use Rattle.calendar.proofs.DateLaws.{date-fits}
 use Rattle.layout.specs.declared.frame.Header.{Header}
 use Rattle.layout.specs.Counters.{givenCycle}
 use Rattle.layout.specs.Tables.{dataRecord, guideRow, field, date}
-use Rattle.layout.specs.Fields.{functionOf, dateOf, rowFunctionOf}
+use Rattle.layout.specs.Fields.{functionOf, dateOf, dateBy, rowFunctionOf}
 use Rattle.layout.specs.Rules.{recordFault, rowFault}
 use Rattle.rules.specs.declared.Kind.{Kind}
 use Rattle.rules.specs.declared.Kind.the-variants.{Data, Guide}
@@ -31,7 +34,7 @@ use Rattle.rules.specs.declared.Found.the-variants.{Nothing}
 use Rattle.rules.specs.declared.Checked.{Checked}
 use Rattle.rules.specs.declared.Checked.the-variants.{Good, Refused}
 use Rattle.rules.specs.Walks.{find, isNothing}
-use Rattle.rules.specs.Slots.{place, goodLength, slots, slotAt, stateOf, slotDay, recordOf, slotOf, isFree, isHeld, isUsed, isZero, isEntryCode, fitsSlot, dayFits, usedSound, slotSound, unsoundSlot, registerSound, rowSlots, rowSlotAt, withRowSlot, isPresent, isVacant, rowOf, rowSlotOf, freeRowSlot, presentSound, rowSlotSound, unsoundRowSlot, guideSound}
+use Rattle.rules.specs.Slots.{place, goodLength, slots, slotAt, stateOf, slotDay, recordOf, slotOf, isFree, isHeld, isUsed, isZero, isEntryCode, fitsSlot, dayFits, usedSound, slotSound, slotSoundBy, unsoundSlot, registerSound, rowSlots, rowSlotAt, withRowSlot, isPresent, isVacant, rowOf, rowSlotOf, freeRowSlot, presentSound, rowSlotSound, unsoundRowSlot, guideSound}
 use Rattle.rules.specs.Records.{codedOf, filedOf, stores, stateAfter, shown, applied}
 use Rattle.rules.specs.Rows.{rowCodeOf, rowApplied}
 use Rattle.rules.specs.Takes.{Stores, lineSize, lineFault, linesIn, lineAt, checked, refusedFile, lineApplied, after, answerAt, appliedFile, taken}
@@ -43,7 +46,7 @@ use Rattle.rules.proofs.View.{Place, own, new, Content, stored, kept, T
 use Rattle.rules.proofs.TakeLaws.{accepted, accepted-took, row-accepted-took, line-not, refused-stores, good-stores, refused-is, good-is}
 use Rattle.rules.proofs.GoodLaws.{GoodFile, checked-by, good-file, line-long}
 use Rattle.rules.proofs.KeepStores.{used-after, content-ok, same-length, same-slots, slot-it, slot-else, RowAfter, row-it, row-else, row-after, put-length, put-slots}
-use Rattle.rules.proofs.SoundLaws.{date-fits, fault-shown, esn-filled}
+use Rattle.rules.proofs.SoundLaws.{fault-shown, esn-filled}
 
 -- ---- a store is sound exactly if its length is good and each slot is sound
 
@@ -54,7 +57,7 @@ pub record AllSound (w : ℕ) (p : List ℕ → Bool) (s : List ℕ) : Type 0 wh
 
 module _ (w : ℕ) (p : List ℕ → Bool) (s : List ℕ) where
   -- it is so if no place fails
-  all-sound : goodLength w s && isNothing (find (λ i. not (p (place w s i))) (length s / w)) ≡ true → AllSound w p s
+  pub all-sound : goodLength w s && isNothing (find (λ i. not (p (place w s i))) (length s / w)) ≡ true → AllSound w p s
   all-sound e =
       let l = goodLength w s in
       let o = find (λ i. not (p (place w s i))) (length s / w) in
@@ -83,7 +86,7 @@ pub slots-sound : (R : List ℕ) → registerSound R ≡ true → SlotsSound R
 unfolding registerSound unsoundSlot
 slots-sound R e = all-sound 520 slotSound R e
 
-register-sound : (R : List ℕ) → SlotsSound R → registerSound R ≡ true
+pub register-sound : (R : List ℕ) → SlotsSound R → registerSound R ≡ true
 unfolding registerSound unsoundSlot
 register-sound R s = none-fails 520 slotSound R s
 
@@ -156,12 +159,12 @@ not-free : (b : ℕ) → isUsed b ≡ true → isFree b ≡ false
 not-free b u = let h = leb-true 1 b (and-left (leb 1 b) (leb b 3) u) in ne-eqb b 0 (omega arith)
 
 -- bytes 5 to 7 are zero
-zeros-slot : (b : ℕ) (d : Day) (r : List ℕ) → isZero (part 5 3 (slotOf b d r)) ≡ true
+pub zeros-slot : (b : ℕ) (d : Day) (r : List ℕ) → isZero (part 5 3 (slotOf b d r)) ≡ true
 unfolding slotOf isZero
 zeros-slot b d r = refl
 
 -- it is sound, if its record fits and its day does
-slot-sound : (b : ℕ) (d : Day) (r : List ℕ) → Whole r → isUsed b ≡ true → onCalendar d ≡ true → fitsSlot r ≡ true
+pub slot-sound : (b : ℕ) (d : Day) (r : List ℕ) → Whole r → isUsed b ≡ true → onCalendar d ≡ true → fitsSlot r ≡ true
     → onDay (dateOf r) false (λ x. dayFits b d x) ≡ true → slotSound (slotOf b d r) ≡ true
 unfolding slotSound usedSound
 slot-sound b d r w u c f e =
@@ -169,21 +172,30 @@ slot-sound b d r w u c f e =
     let h : d .0 < 4294967296 = omega arith in
     rw (state-slot b d r, not-free b u, u, zeros-slot b d r, record-slot b d r w, f, day-slot b d r h) e
 
--- what a used slot that is sound has in it
-pub record Used (s : List ℕ) : Type 0 where
+-- what a used slot that is sound has in it, by either reading of dates
+pub record UsedBy (x : Reading) (s : List ℕ) : Type 0 where
+  pub zeros : isZero (part 5 3 s) ≡ true
   pub fits : fitsSlot (recordOf s) ≡ true
-  pub dated : onDay (dateOf (recordOf s)) false (λ x. dayFits (stateOf s) (slotDay s) x) ≡ true
+  pub dated : onDay (dateBy x (recordOf s)) false (λ d. dayFits (stateOf s) (slotDay s) d) ≡ true
 
-pub used-sound : (s : List ℕ) → slotSound s ≡ true → isUsed (stateOf s) ≡ true → Used s
-unfolding slotSound usedSound
-used-sound s e u =
+pub used-by : (x : Reading) (s : List ℕ) → slotSoundBy x s ≡ true → isUsed (stateOf s) ≡ true → UsedBy x s
+used-by x s e u =
     let a = isUsed (stateOf s) in
     let b = isZero (part 5 3 s) in
     let c = fitsSlot (recordOf s) in
-    let d = onDay (dateOf (recordOf s)) false (λ x. dayFits (stateOf s) (slotDay s) x) in
+    let d = onDay (dateBy x (recordOf s)) false (λ d. dayFits (stateOf s) (slotDay s) d) in
     let f : a && (b && (c && d)) ≡ true = rw (not-free (stateOf s) u) at e in
-    let g = and-right b (c && d) (and-right a (b && (c && d)) f) in
-    record { fits = and-left c d g; dated = and-right c d g }
+    let g = and-right a (b && (c && d)) f in
+    let h = and-right b (c && d) g in
+    record { zeros = and-left b (c && d) g; fits = and-left c d h; dated = and-right c d h }
+
+-- and as dates are read now
+abbrev pub Used : List ℕ → Type 0
+Used s = UsedBy Present s
+
+pub used-sound : (s : List ℕ) → slotSound s ≡ true → isUsed (stateOf s) ≡ true → Used s
+unfolding slotSound usedSound
+used-sound s e u = used-by Present s e u
 
 -- a day is not before itself
 not-before : (d : Day) → isBefore d d ≡ false

@@ -23,3 +23,4 @@ pub mod LoadLaws
 pub mod FileLaws
 pub mod TripLaws
 pub mod RoundTrip
+pub mod ConvertLaws

@@ -13,10 +13,11 @@ use borrow.Author.Tests.{eqb-true, le-leb}
 use Rattle.text.specs.Text.{part, allEqual, putAt}
 use Rattle.text.proofs.Laws.{and-left, and-right}
 use Rattle.calendar.specs.declared.Day.{Day}
+use Rattle.calendar.specs.declared.Reading.the-variants.{Present}
 use Rattle.calendar.proofs.DayLaws.{bytes-back}
 use Rattle.rules.specs.declared.Found.the-variants.{Nothing}
 use Rattle.rules.specs.Walks.{find}
-use Rattle.rules.specs.Slots.{place, goodLength, slots, slotAt, withSlot, stateOf, slotDay, recordOf, slotHead, slotOf, restated, written, isZero, slotSound, unsoundSlot, registerSound, rowSlots, rowSlotAt, withRowSlot, isPresent, isVacant, rowOf, rowHead, rowSlotOf, rowWritten, freeRowSlot, rowSlotSound, unsoundRowSlot, guideSound}
+use Rattle.rules.specs.Slots.{place, goodLength, slots, slotAt, withSlot, stateOf, slotDay, recordOf, slotHead, slotOf, restated, written, isZero, usedSound, slotSound, unsoundSlot, registerSound, unsoundBy, registerSoundBy, rowSlots, rowSlotAt, withRowSlot, isPresent, isVacant, rowOf, rowHead, rowSlotOf, rowWritten, freeRowSlot, rowSlotSound, unsoundRowSlot, guideSound}
 use Rattle.rules.proofs.WalkLaws.{find-nowhere, and-both}
 use Rattle.rules.proofs.PlaceLaws.{part-length, place-same, place-other, place-length}
 
@@ -55,7 +56,7 @@ unfolding slotDay slotOf
 day-slot b d r h = bytes-back (d .0) h
 
 -- the record in a slot has 512 bytes
-record-length : (s : List ℕ) → length s ≡ 520 → Whole (recordOf s)
+pub record-length : (s : List ℕ) → length s ≡ 520 → Whole (recordOf s)
 unfolding recordOf
 record-length s h = part-length 8 512 s (omega arith)
 
@@ -214,6 +215,13 @@ pub zero-part : (i n : ℕ) (s : List ℕ) → isZero s ≡ true → isZero (par
 unfolding isZero
 zero-part i n s h = equal-take n 0 (drop i s) (equal-drop i 0 s h)
 
+-- what is all zero is zeros
+pub zeros-are : (s : List ℕ) → isZero s ≡ true → s ≡ replicate (length s) 0
+unfolding isZero
+zeros-are [] h = refl
+zeros-are (a ∷ s) h =
+    rw (eqb-true a 0 (and-left (eqb a 0) (allEqual 0 s) h)) (ap (λ t. 0 ∷ t) (zeros-are s (and-right (eqb a 0) (allEqual 0 s) h)))
+
 -- its first byte is 0
 zero-first : (s : List ℕ) → isZero s ≡ true → getD s 0 0 ≡ 0
 unfolding isZero
@@ -275,3 +283,10 @@ empty-guide-sound n a b =
     let o : find (unsoundRowSlot G) (rowSlots G) ≡ Nothing =
     find-nowhere (unsoundRowSlot G) (rowSlots G) (λ i l. rw (zero-row-sound (rowSlotAt G i) (zero-place 208 (n * 208) i))) in
     rw (o, e, empty-row-slots n, le-leb 1 n a, le-leb n 4096 b)
+
+-- ---- the two readings of dates
+
+-- a register is sound as dates are read now exactly if it is so by the present reading
+pub sound-now : (R : List ℕ) → registerSoundBy Present R ≡ registerSound R
+unfolding registerSoundBy registerSound unsoundBy unsoundSlot slotSound usedSound
+sound-now R = refl

@@ -1,21 +1,15 @@
--- When what is stored is sound: a record of good form keeps it when its blank ESN is filled in from a row of good form; its date is
--- a day that a slot can have. Assumes nothing.
+-- When what is stored is sound: a record of good form keeps it when its blank ESN is filled in from a row of good form. Assumes nothing.
 use mathlib.Core.Path.{_≡_, refl, _∙_}
 use mathlib.Core.Bool.{Bool, true, false, not, _&&_, _||_, cond}
 use mathlib.Core.List.{List, [], _∷_}
-use Prim.Native.Nat.{ℕ, zero, suc, _+_, _*_, _-_, _/_, _%_, _≤_}
+use Prim.Native.Nat.{ℕ, zero, suc, _+_, _-_, _≤_}
 use native.Mathlib.Omega.{arith}
 use lib.Dec.{leb, eqb}
-use lib.ListN.{length, drop, getD}
-use borrow.Author.Tests.{eqb-true, eqb-false, leb-true, leb-false, le-leb, ne-eqb}
+use lib.ListN.{drop}
+use borrow.Author.Tests.{eqb-true, eqb-false, leb-true, le-leb, ne-eqb}
 use Rattle.text.specs.declared.Class.the-variants.{Digit}
-use Rattle.text.specs.declared.Spelled.{Spelled}
-use Rattle.text.specs.declared.Spelled.the-variants.{Number, NoNumber}
-use Rattle.text.specs.Text.{inClass, blank, runOf, runsOf, spelled, onNumber, part}
+use Rattle.text.specs.Text.{inClass, blank, runOf, runsOf, part}
 use Rattle.text.proofs.Laws.{and-left, and-right}
-use Rattle.calendar.specs.declared.Date.the-variants.{Day as aDay, NoDate}
-use Rattle.calendar.specs.Calendar.{months, leap, monthDays, isDay, dayNumber, dayFrom, dayOf, noLater}
-use Rattle.calendar.proofs.DayLaws.{month-most}
 use Rattle.layout.specs.Tables.{dataRecord, guideRow, startOf, rowEsn, zone, highEnd, parityLetter}
 use Rattle.layout.specs.Fields.{functionOf, esnOf, hasEsn, rowEsnOf, withEsn}
 use Rattle.layout.specs.Rules.{keeps, keepsOther, isWhole, faultBy, fromZero, orElse, faultIn, isLax, recordFault, rowFault}
@@ -23,59 +17,6 @@ use Rattle.rules.specs.Records.{shown}
 use Rattle.rules.proofs.WalkLaws.{not-true}
 use Rattle.rules.proofs.SlotLaws.{Whole, WholeRow}
 use Rattle.rules.proofs.EsnLaws.{esnAt, esnSize, clearOfEsn, esn-with, part-with, function-with, shown-has, shown-blank, has-shown}
-
--- ---- days
-
--- a month has at most 31 days
-month-days : (m y : ℕ) → monthDays m y ≤ 31
-month-days m y = go (eqb m 2 && leap y)
-  where
-    go : (b : Bool) → cond b 29 (getD months (m - 1) 0) ≤ 31
-    go true = omega arith
-    go false = month-most (m - 1)
-
--- the last day is 36524
-number-most : (m d y : ℕ) → y ≤ 99 → 1 ≤ m → m ≤ 12 → d ≤ 31 → dayNumber m d y ≤ 36524
-number-most m d y a b c e = go (leb m 2) refl (leap y) refl
-  where
-    go : (p : Bool) → leb m 2 ≡ p → (q : Bool) → leap y ≡ q
-        → 365 * y + (y + 3) / 4 + (367 * m - 362) / 12 - cond p 0 (cond q 1 2) + d - 1 ≤ 36524
-    go true f q g = let h = leb-true m 2 f in omega arith
-    go false f true g = let h = eqb-true (y % 4) 0 g in let i = leb-false m 2 f in omega arith
-    go false f false g = let h = eqb-false (y % 4) 0 g in let i = leb-false m 2 f in omega arith
-
--- so it is for every day that three numbers name
-from-fits : (m d y : ℕ) → noLater (dayFrom m d y) ≡ true
-from-fits m d y = go (isDay m d y) refl
-  where
-    go : (b : Bool) → isDay m d y ≡ b → noLater (cond b (aDay (record { 0 = dayNumber m d y })) NoDate) ≡ true
-    go false e = refl
-    go true e =
-        let ty = leb y 99 in
-        let tm = leb 1 m in
-        let tn = leb m 12 in
-        let td = leb 1 d in
-        let te = leb d (monthDays m y) in
-        let v = and-right ty (tm && (tn && (td && te))) e in
-        let w = and-right tm (tn && (td && te)) v in
-        let x = and-right tn (td && te) w in
-        let k = leb-true d (monthDays m y) (and-right td te x) in
-        le-leb (dayNumber m d y) 36524
-        (number-most m d y (leb-true y 99 (and-left ty (tm && (tn && (td && te))) e)) (leb-true 1 m (and-left tm (tn && (td && te)) v))
-        (leb-true m 12 (and-left tn (td && te) w)) (omega (arith, month-days m y)))
-
--- a day that six bytes name is one that a slot can have
-pub date-fits : (f : List ℕ) → noLater (dayOf f) ≡ true
-unfolding dayOf
-date-fits f = go (eqb (length f) 6) (spelled 2 2 (part 0 2 f)) (spelled 2 2 (part 2 2 f)) (spelled 2 2 (part 4 2 f))
-  where
-    go : (b : Bool) (m d y : Spelled)
-        → noLater (cond b (onNumber m NoDate (λ m. onNumber d NoDate (λ d. onNumber y NoDate (λ y. dayFrom m d y)))) NoDate) ≡ true
-    go false m d y = refl
-    go true NoNumber d y = refl
-    go true (Number m) NoNumber y = refl
-    go true (Number m) (Number d) NoNumber = refl
-    go true (Number m) (Number d) (Number y) = from-fits m d y
 
 -- ---- the fields of a line of good form
 

@@ -66,6 +66,18 @@ find-none p (suc n) e i h = go (λ f. find-none p n f i) (find p n) refl (p n) r
     go ih Nothing f false q e (yes l) = ih f l
     go ih Nothing f false q e (no l) = let z : i ≡ n = omega arith in rw z q
 
+-- no place below the one that is found passes
+pub find-below : (p : ℕ → Bool) (n i : ℕ) → find p n ≡ At i → (j : ℕ) → j < i → p j ≡ false
+unfolding find
+find-below p zero i e j h = let z : _≡_ {A = ℕ} 0 1 = cc in absurd (omega arith)
+find-below p (suc n) i e j h = go (λ f. find-below p n i f j h) (find p n) refl (p n) refl e
+  where
+    go : (find p n ≡ At i → p j ≡ false) → (o : Found) → find p n ≡ o → (b : Bool) → p n ≡ b
+        → orElse o (cond b (At n) Nothing) ≡ At i → p j ≡ false
+    go ih (At k) f b q e = ih (f ∙ e)
+    go ih Nothing f true q e = let z : n ≡ i = cc in find-none p n f j (omega arith)
+    go ih Nothing f false q e = let z : _≡_ {A = ℕ} 0 1 = cc in absurd (omega arith)
+
 -- a test that holds nowhere below n
 pub find-nowhere : (p : ℕ → Bool) (n : ℕ) → ((i : ℕ) → i < n → p i ≡ false) → find p n ≡ Nothing
 find-nowhere p n f = go (find p n) refl

@@ -1,4 +1,4 @@
--- P1 to P10 of the description, as a single table: each is computed.
+-- P1 to P10 of the description, P1, P2 and P4 as 2026-02 has them, and its first and last day, as a single table: each is computed.
 -- Assumes nothing.
 use Prim.Native.Nat.{ℕ}
 use mathlib.Core.Path.{_≡_, refl}
@@ -42,10 +42,12 @@ onDayNumber n = record { 0 = n }
 pub table : List Bool
 unfolding dayOf spelled runsOf leftDigits amongSpaces width clash hits sameStreet meets meetFrom lowOf highOf parityOf allows rowStreetOf rowPlaceOf isReusable stateOf slotDay slotOf
 table =
-    isDayNumber 0 (mmddyy 1 1 0)  -- P1: 010100 is day 0
-    ∷ isDayNumber 59 (mmddyy 2 29 0)  -- P2: 022900 is 59
+    isDayNumber 10957 (mmddyy 1 1 0)  -- P1: 010100 is day 10957
+    ∷ isDayNumber 11016 (mmddyy 2 29 0)  -- P2: 022900 is 11016
     ∷ isNoDate (mmddyy 2 29 1)  -- P3: 022901 is no date
-    ∷ isDayNumber 36524 (mmddyy 12 31 99)  -- P4: 123199 is 36524
+    ∷ isDayNumber 10956 (mmddyy 12 31 99)  -- P4: 123199 is 10956
+    ∷ isDayNumber 0 (mmddyy 1 1 70)  -- "day 0 is 010170"
+    ∷ isDayNumber 36524 (mmddyy 12 31 69)  -- "the last day, 123169, is 36524"
     ∷ not (clash (rowWith 66 300 300) (rowWith 79 201 399))  -- P5: B 300-300 and O 201-399 don't clash
     ∷ (clash (rowWith 66 100 200) (rowWith 79 51 101) && bothHit (rowWith 66 100 200) (rowWith 79 51 101) 101)
     -- P6: B 100-200 and O 51-101 clash (101)

@@ -11,3 +11,4 @@ pub mod Cases
 pub mod Demands
 pub mod Answered
 pub mod Circle
+pub mod Converts

@@ -7,9 +7,11 @@ use lib.Dec.{leb, eqb}
 use lib.ListN.{length, take, drop, getD, replicate}
 use Rattle.text.specs.Text.{part, allEqual, putAt}
 use Rattle.calendar.specs.declared.Day.{Day}
+use Rattle.calendar.specs.declared.Reading.{Reading}
+use Rattle.calendar.specs.declared.Reading.the-variants.{Present}
 use Rattle.calendar.specs.Calendar.{storedDay, dayBytes, isBefore, onCalendar, onDay}
 use Rattle.layout.specs.Tables.{dataRecord, guideRow}
-use Rattle.layout.specs.Fields.{functionOf, hasEsn, dateOf, rowFunctionOf}
+use Rattle.layout.specs.Fields.{functionOf, hasEsn, dateBy, rowFunctionOf}
 use Rattle.layout.specs.Rules.{recordFault, rowFault}
 use Rattle.rules.specs.Walks.{find, isNothing}
 
@@ -107,12 +109,17 @@ dayFits b day date =
     && ((not (isHeld b) || not (isBefore date day))
     && onCalendar day)
 
-unfoldable pub usedSound : List ℕ → Bool
-usedSound s =
+-- "A sound used slot", by either reading of its record's date
+abbrev pub usedSoundBy : Reading → List ℕ → Bool
+usedSoundBy reading s =
     isUsed (stateOf s)
     && (isZero (part 5 3 s)
     && (fitsSlot (recordOf s)
-    && onDay (dateOf (recordOf s)) false (λ date. dayFits (stateOf s) (slotDay s) date)))
+    && onDay (dateBy reading (recordOf s)) false (λ date. dayFits (stateOf s) (slotDay s) date)))
+
+-- and as dates are read now
+unfoldable pub usedSound : List ℕ → Bool
+usedSound s = usedSoundBy Present s
 
 unfoldable pub slotSound : List ℕ → Bool
 slotSound s = cond (isFree (stateOf s)) (isZero s) (usedSound s)
@@ -126,6 +133,19 @@ unsoundSlot R k = isUnsound (slotAt R k)
 
 unfoldable pub registerSound : List ℕ → Bool
 registerSound R = goodLength slotSize R && isNothing (find (unsoundSlot R) (slots R))
+
+-- 2026-02, refusal "1 by the old reading": the same, by either reading
+abbrev pub slotSoundBy : Reading → List ℕ → Bool
+slotSoundBy reading s = cond (isFree (stateOf s)) (isZero s) (usedSoundBy reading s)
+
+abbrev pub isUnsoundBy : Reading → List ℕ → Bool
+isUnsoundBy reading s = not (slotSoundBy reading s)
+
+unfoldable pub unsoundBy : Reading → List ℕ → ℕ → Bool
+unsoundBy reading R k = isUnsoundBy reading (slotAt R k)
+
+unfoldable pub registerSoundBy : Reading → List ℕ → Bool
+registerSoundBy reading R = goodLength slotSize R && isNothing (find (unsoundBy reading R) (slots R))
 
 -- ---- "Guide slot, 208 bytes"
 

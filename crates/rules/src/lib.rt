@@ -87,3 +87,10 @@ pub struct Loaded {
     pub bytes: u32,
     pub entries: u32,
 }
+
+// What a conversion returns; the slot is 0 but in 28.
+#[repr(C)]
+pub struct Converted {
+    pub refusal: u32,
+    pub slot: u32,
+}

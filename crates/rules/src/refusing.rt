@@ -36,3 +36,6 @@ pub const OUTPUT_SHORT: u32 = 25;
 
 // "date, name or cycle breaks the header's rules .. or the date is before an entry's day"
 pub const LOAD_HEADER: u32 = 26;
+
+// "a stored day above 25567 has no reading now and is reported by its slot"
+pub const NO_READING: u32 = 28;

@@ -1,10 +1,12 @@
-// Whether register and guide are sound, slot by slot.
+// Whether register and guide are sound, slot by slot; the register by either reading of its records' dates.
 ghost use mathlib.Core.Path.{_≡_};
 ghost use Prim.Native.Nat.{_<_};
 ghost use Rattle.rules.specs.Walks.{sought};
-ghost use Rattle.rules.specs.Slots.{goodLength, slotSize, slots, isEntryCode, fitsSlot, dayFits, usedSound, isUnsound, unsoundSlot, registerSound, rowSlots, presentSound, isRowUnsound, unsoundRowSlot, guideSound};
+ghost use Rattle.rules.specs.Slots.{goodLength, slotSize, slots, isEntryCode, fitsSlot, dayFits, usedSoundBy, isUnsoundBy, unsoundBy, registerSoundBy, registerSound};
+ghost use Rattle.rules.specs.Slots.{rowSlots, presentSound, isRowUnsound, unsoundRowSlot, guideSound};
 use calendar::Date;
 use calendar::Day;
+use calendar::Reading;
 use layout::field;
 use rules::Found;
 use rules::Sought;
@@ -51,15 +53,15 @@ fn does_day_fit(state: u8, day: Day, date: Day) -> bool
         & ((!(state == states::HELD) | !date.is_before(day)) & day.is_on_calendar())
 }
 
-fn is_used_sound(slot: &[u8]) -> bool
-    ensures { λ r. ⌜ r ≡ usedSound (now (slot .entry)) ⌝ }
+fn is_used_sound(reading: Reading, slot: &[u8]) -> bool
+    ensures { λ r. ⌜ r ≡ usedSoundBy reading (now (slot .entry)) ⌝ }
 {
     let state = register::state(slot);
     if register::is_used(state) {
         if text::all_equal(text::part_of(slot, 5, 3), 0) {
             let rec = register::rec(slot);
             if does_fit(rec) {
-                let Date::Day(date) = field::date(rec) else {
+                let Date::Day(date) = field::date_by(reading, rec) else {
                     return false;
                 };
                 return does_day_fit(state, register::day(slot), date);
@@ -69,25 +71,25 @@ fn is_used_sound(slot: &[u8]) -> bool
     false
 }
 
-fn is_unsound(slot: &[u8]) -> bool
-    ensures { λ r. ⌜ r ≡ isUnsound (now (slot .entry)) ⌝ }
+fn is_unsound(reading: Reading, slot: &[u8]) -> bool
+    ensures { λ r. ⌜ r ≡ isUnsoundBy reading (now (slot .entry)) ⌝ }
 {
     if register::state(slot) == states::FREE {
         return !text::all_equal(slot, 0);
     }
-    !is_used_sound(slot)
+    !is_used_sound(reading, slot)
 }
 
 // The lowest slot of the register that is not sound.
-fn find_unsound(register: &[u8]) -> Sought
-    ensures { λ r. ⌜ r ≡ sought (unsoundSlot (now (register .entry))) (slots (now (register .entry))) ⌝ }
+fn find_unsound(reading: Reading, register: &[u8]) -> Sought
+    ensures { λ r. ⌜ r ≡ sought (unsoundBy reading (now (register .entry))) (slots (now (register .entry))) ⌝ }
 {
     let n = register.len() / register::SLOT;
     let mut i: usize = 0;
     while i < n {
         let a = i * register::SLOT;
         let e = a + register::SLOT;
-        if is_unsound(&register[a..e]) {
+        if is_unsound(reading, &register[a..e]) {
             return Sought {
                 found: Found::At(i),
                 looked: i + 1,
@@ -101,17 +103,25 @@ fn find_unsound(register: &[u8]) -> Sought
     }
 }
 
-pub fn is_register_sound(register: &[u8]) -> bool
-    ensures { λ r. ⌜ r ≡ registerSound (now (register .entry)) ⌝ }
+// Whether the register is sound by a reading of dates.
+pub fn is_sound_by(reading: Reading, register: &[u8]) -> bool
+    ensures { λ r. ⌜ r ≡ registerSoundBy reading (now (register .entry)) ⌝ }
 {
     if is_register_long(register) {
-        let sought = find_unsound(register);
+        let sought = find_unsound(reading, register);
         let found = sought.found;
         let Found::At(_) = found else {
             return true;
         };
     }
     false
+}
+
+// Whether it is sound as dates are read now.
+pub fn is_register_sound(register: &[u8]) -> bool
+    ensures { λ r. ⌜ r ≡ registerSound (now (register .entry)) ⌝ }
+{
+    is_sound_by(Reading::Present, register)
 }
 
 fn is_present_sound(slot: &[u8]) -> bool

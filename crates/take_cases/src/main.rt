@@ -1,5 +1,5 @@
 // Calls of the two takes. Each line of standard input is a call, and the line that is written for it says what it returned and
-// what each lent part holds then; the file stdout says what it must be. Both files were made from 01 alone, and not by this
+// what each lent part holds then; the file stdout says what it must be. Both files were made from the description alone, and not by this
 // program. They have each refusal and each answer of both takes, a fault in each field, each code at each state of a slot, and
 // files of several lines.
 mod calls;

@@ -40,7 +40,7 @@ since = entry (line 67 66) ∷ []
 
 -- the header of the data file
 abbrev head : Header
-head = record { day = record { 0 = 0 }; cycle = record { 0 = 1 } }
+head = record { day = record { 0 = 10957 }; cycle = record { 0 = 1 } }
 
 -- ---- the third demand
 

@@ -1,3 +1,4 @@
 pub mod Witness
 pub mod Instances
 pub mod TripWitness
+pub mod ConvertWitness

@@ -116,6 +116,15 @@ fn load<'a>(subject: &'a impl Subject, register: &'a [u8], out: usize) -> Pass<'
     })
 }
 
+/// Conversions, each of the register as it was.
+fn conversion<'a>(subject: &'a impl Subject, register: &'a [u8]) -> Pass<'a> {
+    let mut lent = register.to_vec();
+    Box::new(move || {
+        lent.copy_from_slice(register);
+        timed(|| subject.convert_register(&mut lent))
+    })
+}
+
 /// One byte of every slot.
 fn loads(register: &[u8]) -> Pass<'_> {
     Box::new(move || {
@@ -209,6 +218,13 @@ impl Bench {
             copying(vec![register]),
         );
     }
+
+    fn conversion(&self) {
+        let old = town::old_register(self.slots, &self.guide);
+        let name = format!("convert register, {} slots", self.slots);
+        let (library, model) = (conversion(&Library, &old), conversion(&MODEL, &old));
+        report(&name, library, model, copying(vec![&old]));
+    }
 }
 
 fn main() {
@@ -222,6 +238,7 @@ fn main() {
     full.rows();
     full.load();
     full.soundness();
+    full.conversion();
     for slots in [512, 1024, 2048, 4096] {
         let bench = Bench::new(slots);
         bench.lookups();
@@ -229,6 +246,7 @@ fn main() {
         bench.rows();
         bench.load();
         bench.soundness();
+        bench.conversion();
     }
     for records in [512, 1024, 2048, 4096, 8192] {
         full.data(records);

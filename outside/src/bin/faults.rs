@@ -1,4 +1,4 @@
-//! `faults [--seed S] [--cases N] [--full]`: five faults put into the model by
+//! `faults [--seed S] [--cases N] [--full]`: seven faults put into the model by
 //! hand. The differential run against the library must see each of them; `--full`
 //! prints the call that showed it, made small.
 
@@ -6,7 +6,8 @@ use outside::arguments::Arguments;
 use outside::explore::{Explorer, Finding};
 use outside::face::Library;
 use outside::model::rules::{
-    ClashWithoutParity, NinetyOneDays, NoCycleWrap, NoLeapYear, NoLeftJustify,
+    ClashWithoutParity, NinetyOneDays, NoCycleWrap, NoLeapYear, NoLeftJustify, PivotOneOff,
+    RestingForgotten,
 };
 use outside::model::Rules;
 use outside::random::Random;
@@ -41,6 +42,14 @@ fn main() -> ExitCode {
         ("no left-justify rule", search::<NoLeftJustify>(&arguments)),
         ("no leap year", search::<NoLeapYear>(&arguments)),
         ("no cycle wrap", search::<NoCycleWrap>(&arguments)),
+        (
+            "71 instead of 70 for 19YY",
+            search::<PivotOneOff>(&arguments),
+        ),
+        (
+            "conversion without resting slots",
+            search::<RestingForgotten>(&arguments),
+        ),
     ];
     let mut missed = 0;
     for (name, (calls, finding)) in &faults {

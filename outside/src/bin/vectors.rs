@@ -1,12 +1,16 @@
-//! `vectors CALLS [DESK_FOLDER]`: runs every line of a calls file against the
-//! model and the library, and every desk vector against the model.
+//! `vectors CALLS.. [DESK_FOLDER]`: runs every line of the calls files against
+//! the model and the library, and every desk vector against the model.
 
+use outside::dates::day_read;
 use outside::face::Library;
+use outside::model::date::{day, Day};
 use outside::model::{desk::desk, Described};
 use outside::subject::{Model, Subject};
-use outside::vectors::{parse, Vector};
+use outside::vectors::{parse, parse_date, Vector};
 use std::path::Path;
 use std::process::ExitCode;
+
+const MODEL: Model<Described> = Model::new();
 
 /// Passed and failed.
 #[derive(Default)]
@@ -31,16 +35,26 @@ fn against(subject: &impl Subject, vector: &Vector, shift: usize) -> Option<Stri
     Some(format!("{text} ({})", vector.kind))
 }
 
-fn calls(path: &str, library: &mut Tally, model: &mut Tally) -> std::io::Result<()> {
+/// Where the day that was read is not the vector's.
+fn other_day(expected: Option<Day>, got: Result<Option<Day>, String>) -> Option<String> {
+    (got != Ok(expected)).then(|| format!("expected {expected:?}, got {got:?}"))
+}
+
+fn calls(path: &Path, library: &mut Tally, model: &mut Tally) -> std::io::Result<()> {
     for (before, line) in std::fs::read_to_string(path)?.lines().enumerate() {
-        let place = format!("line {}", before + 1);
-        let Some(vector) = parse(line) else {
+        let place = format!("{} line {}", path.display(), before + 1);
+        if let Some((date, expected)) = parse_date(line) {
+            // The model's reader itself too: no call reads a date alone.
+            let read = other_day(expected, Ok(day::<Described>(&date)));
+            let difference = read.or_else(|| other_day(expected, day_read(&MODEL, &date)));
+            model.note(&place, difference);
+            library.note(&place, other_day(expected, day_read(&Library, &date)));
+        } else if let Some(vector) = parse(line) {
+            model.note(&place, against(&MODEL, &vector, before));
+            library.note(&place, against(&Library, &vector, before));
+        } else {
             model.note(&place, Some("can't be read".to_string()));
-            continue;
-        };
-        let described = Model::<Described>::new();
-        model.note(&place, against(&described, &vector, before));
-        library.note(&place, against(&Library, &vector, before));
+        }
     }
     Ok(())
 }
@@ -59,12 +73,16 @@ fn desks(folder: &Path, tally: &mut Tally) -> std::io::Result<()> {
 }
 
 fn main() -> std::io::Result<ExitCode> {
-    let mut arguments = std::env::args().skip(1);
-    let path = arguments.next().expect("the calls file");
     let (mut library, mut model, mut desk) = <(Tally, Tally, Tally)>::default();
-    calls(&path, &mut library, &mut model)?;
-    if let Some(folder) = arguments.next() {
-        desks(Path::new(&folder), &mut desk)?;
+    let arguments: Vec<String> = std::env::args().skip(1).collect();
+    assert!(!arguments.is_empty(), "the calls files");
+    for argument in &arguments {
+        let path = Path::new(argument);
+        if path.is_dir() {
+            desks(path, &mut desk)?;
+        } else {
+            calls(path, &mut library, &mut model)?;
+        }
     }
     println!("model: {} calls passed, {} failed", model.0, model.1);
     println!("library: {} calls passed, {} failed", library.0, library.1);

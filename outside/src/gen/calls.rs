@@ -2,7 +2,6 @@
 
 use super::{World, NAME};
 use crate::call::{Call, Op};
-use crate::model::date::{date_of, Day};
 use crate::model::layout::{EDGE, RECORD, REGISTER_SLOT};
 use crate::model::store::{is_live, slot_day};
 
@@ -75,9 +74,10 @@ impl World {
         };
         let count = entries().count();
         let newest = entries().map(|slot| slot_day(slot).0).max().unwrap_or(0);
-        let day = match self.random.below(6) {
+        let day = match self.random.below(8) {
             0 => newest.saturating_sub(1),
             1 => newest,
+            2 => self.edge_day(),
             _ => newest.max(self.today),
         };
         let need = 2 * EDGE + count * RECORD;
@@ -89,7 +89,7 @@ impl World {
             given: self.random.pick(&[1, 9, 10, 42, 99_999, 999_999]),
             lent: vec![
                 self.register.clone(),
-                date_of(Day(day)).to_vec(),
+                self.date(day).to_vec(),
                 NAME.to_vec(),
                 vec![FILLER; room],
             ],

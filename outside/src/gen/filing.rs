@@ -1,7 +1,6 @@
 //! Records and rows of good form that matter to the stores as they are.
 
 use super::{put, World};
-use crate::model::date::{date_of, Day, LAST_DAY};
 use crate::model::form::number;
 use crate::model::layout::{record, row, Blank, Field, Form, RECORD, ROW};
 use crate::model::store::{HELD, OPEN};
@@ -171,14 +170,17 @@ impl World {
                 day = (since + self.random.pick(&[0, 1, 2])).saturating_sub(1);
             }
         }
-        if self.random.chance(4) {
-            day = self.today + 1;
+        match self.random.below(25) {
+            0 => day = self.today + 1,
+            1 => day = self.edge_day(),
+            2 => day = self.random.between(0, self.today),
+            _ => {}
         }
         put(&mut whole, record::FUNCTION, &[code]);
         put(&mut whole, record::NPA, &number[..3]);
         put(&mut whole, record::CALLING_NUMBER, &number[3..]);
         put(&mut whole, record::COMPANY_ID, &company);
-        put(&mut whole, record::DATE, &date_of(Day(day.min(LAST_DAY.0))));
+        put(&mut whole, record::DATE, &self.date(day));
         put(&mut whole, record::STAR, b"*");
         let bare = matches!(code, b'D' | b'U') && self.random.chance(50);
         if !bare {

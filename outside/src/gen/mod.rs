@@ -5,21 +5,33 @@
 
 mod calls;
 mod filing;
+mod old;
 
 use crate::call::Op;
-use crate::model::date::{date_of, Day, LAST_DAY};
+use crate::model::date::{date_of, day, Day, Reading, LAST_DAY};
 use crate::model::layout::{
     header, record, trailer, Field, EDGE, GUIDE_SLOT, REGISTER_SLOT, SLOT_HEAD,
 };
 use crate::model::store::{slot_day, slot_number, slot_record, RESTING};
+use crate::model::{Described, Former};
 use crate::random::Random;
 
 /// The company name of every file.
 pub const NAME: &[u8; 50] = b"RURAL TELEPHONE AND LINE                          ";
+/// The first day of this century, 010100.
+const CENTURY: u32 = 10957;
+/// A run that begins so many days before a day comes to it.
+const SHORTLY: u32 = 120;
 /// Days of four years, one of them leap.
 const FOUR_YEARS: u32 = 1461;
-/// 022900.
-const LEAP_DAY: u32 = 59;
+/// 022972, the first of 25 leap days.
+const LEAP_DAY: u32 = 789;
+/// The first and the last date, both sides of the turn of the century, of YY 70
+/// and of its leap days; by the former reading they stand in another order.
+pub const EDGE_DATES: [&[u8; 6]; 10] = [
+    b"010170", b"123170", b"022972", b"030172", b"123199", b"010100", b"022900", b"030100",
+    b"010169", b"123169",
+];
 
 /// Stores, their cycles and the pools that records are made from.
 pub struct World {
@@ -33,6 +45,10 @@ pub struct World {
     pub last_data: u32,
     /// The last cycle of guide files.
     pub last_guide: u32,
+    /// How its files and its register are dated.
+    reading: Reading,
+    /// The last day that a file of its is dated.
+    last_day: u32,
     today: u32,
     numbers: usize,
     streets: usize,
@@ -94,12 +110,16 @@ impl World {
     /// Empty stores of this size.
     pub fn sized(seed: u64, slots: usize, rows: usize) -> Self {
         let mut random = Random::new(seed);
-        let today = match random.below(4) {
+        let today = match random.below(7) {
             0 => random.between(0, 400),
             1 => random.between(0, 24) * FOUR_YEARS + LEAP_DAY,
+            2 | 3 => CENTURY - random.between(0, SHORTLY),
+            4 => LAST_DAY.0 - random.between(0, SHORTLY),
             _ => random.between(0, LAST_DAY.0),
         };
         World {
+            reading: Reading::Present,
+            last_day: LAST_DAY.0,
             register: vec![0; slots * REGISTER_SLOT],
             guide: vec![0; rows * GUIDE_SLOT],
             last_data: 0,
@@ -110,6 +130,21 @@ impl World {
             houses: if rows > 64 { 4000 } else { 40 },
             random,
         }
+    }
+
+    /// The date of a day, by this world's reading.
+    fn date(&self, day: u32) -> [u8; 6] {
+        date_of(self.reading, Day(day.min(self.last_day)))
+    }
+
+    /// The day of a date at an edge.
+    fn edge_day(&mut self) -> u32 {
+        let date = self.random.pick(&EDGE_DATES);
+        let day = match self.reading {
+            Reading::Present => day::<Described>(date),
+            Reading::Former => day::<Former<Described>>(date),
+        };
+        day.expect("a date").0.min(self.last_day)
     }
 
     /// A used slot's state, day, number and company, if there is one.
@@ -142,11 +177,13 @@ impl World {
             }
             _ => self.today + self.random.pick(&[0, 0, 1, 1, 2, 30, 90]),
         };
-        self.today = match self.random.below(60) {
+        let today = match self.random.below(60) {
             0 => self.random.between(0, 24) * FOUR_YEARS + LEAP_DAY,
-            1 => self.random.between(0, LAST_DAY.0),
-            _ => wanted.min(LAST_DAY.0),
+            1 => self.random.between(0, self.last_day),
+            2 => self.edge_day(),
+            _ => wanted,
         };
+        self.today = today.min(self.last_day);
     }
 
     /// A data file of n records for the stores as they are.
@@ -154,7 +191,7 @@ impl World {
         self.go_on();
         let records: Vec<u8> = (0..count).flat_map(|_| self.record()).collect();
         file(
-            &date_of(Day(self.today)),
+            &self.date(self.today),
             next_cycle(self.last_data),
             &records,
             count,
@@ -165,7 +202,7 @@ impl World {
     pub fn guide_file(&mut self, count: usize) -> Vec<u8> {
         let rows: Vec<u8> = (0..count).flat_map(|_| self.row()).collect();
         file(
-            &date_of(Day(self.today)),
+            &self.date(self.today),
             next_cycle(self.last_guide),
             &rows,
             count,
@@ -184,7 +221,7 @@ impl World {
                 self.guide.clone_from(&lent[1]);
                 self.last_guide = last;
             }
-            Op::Lookup | Op::WriteLoad => {}
+            Op::Lookup | Op::WriteLoad | Op::ConvertRegister => {}
         }
     }
 }

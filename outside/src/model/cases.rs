@@ -1,16 +1,23 @@
 //! The document's cases on both sides, P1 to P10 among them, and the readings.
 
-use super::date::{day, follows, Cycle, Day};
+use super::date::{date_of, day, follows, Cycle, Day, Reading};
 use super::desk::desk;
 use super::form::{record_fault, row_fault};
 use super::guide::clash;
 use super::layout::{record, row, Field, GUIDE_SLOT, RECORD, REGISTER_SLOT, ROW, SLOT_HEAD};
-use super::rules::Described;
-use super::{lookup, take_data, take_guide, write_load, Found, Loaded, Taken};
+use super::rules::{Described, Former};
+use super::store::{register_sound, slot_day};
+use super::{
+    convert_register, lookup, take_data, take_guide, write_load, Converted, Found, Loaded, Taken,
+};
 use crate::gen::{file, put, NAME};
 
 fn day_of(date: &[u8; 6]) -> Option<u32> {
     day::<Described>(date).map(|Day(number)| number)
+}
+
+fn former_day_of(date: &[u8; 6]) -> Option<u32> {
+    day::<Former<Described>>(date).map(|Day(number)| number)
 }
 
 fn a_row(parity: &str, low: &str, high: &str) -> [u8; ROW] {
@@ -79,17 +86,54 @@ fn fault(changes: &[(Field, &str)]) -> Option<usize> {
 
 #[test]
 fn dates_p1_to_p4() {
-    assert_eq!(day_of(b"010100"), Some(0));
-    assert_eq!(day_of(b"022900"), Some(59));
+    assert_eq!(day_of(b"010100"), Some(10957));
+    assert_eq!(day_of(b"022900"), Some(11016));
     assert_eq!(day_of(b"022901"), None);
-    assert_eq!(day_of(b"123199"), Some(36524));
+    assert_eq!(day_of(b"123199"), Some(10956));
+    assert_eq!(day_of(b"010170"), Some(0));
+    assert_eq!(day_of(b"123169"), Some(36524));
+}
+
+#[test]
+fn dates_p1_to_p4_by_the_former_reading() {
+    assert_eq!(former_day_of(b"010100"), Some(0));
+    assert_eq!(former_day_of(b"022900"), Some(59));
+    assert_eq!(former_day_of(b"022901"), None);
+    assert_eq!(former_day_of(b"123199"), Some(36524));
+    assert_eq!(former_day_of(b"123169"), Some(25567));
+    assert_eq!(former_day_of(b"010170"), Some(25568));
+}
+
+#[test]
+fn dates_of_the_request() {
+    let days = [
+        (b"010170", 0),
+        (b"123170", 364),
+        (b"022972", 789),
+        (b"030172", 790),
+        (b"123199", 10956),
+        (b"010100", 10957),
+        (b"022900", 11016),
+        (b"010101", 11323),
+        (b"111526", 20772),
+        (b"123168", 36159),
+        (b"123169", 36524),
+    ];
+    for (date, number) in days {
+        assert_eq!(day_of(date), Some(number));
+    }
+    for date in [b"022970", b"022901", b"130101", b"003100"] {
+        assert_eq!(day_of(date), None);
+    }
 }
 
 #[test]
 fn every_day_has_one_date() {
     for number in 0..=36524 {
-        let date = super::date::date_of(Day(number));
-        assert_eq!(day_of(&date), Some(number));
+        let present = date_of(Reading::Present, Day(number));
+        assert_eq!(day_of(&present), Some(number));
+        let former = date_of(Reading::Former, Day(number));
+        assert_eq!(former_day_of(&former), Some(number));
     }
 }
 
@@ -128,17 +172,18 @@ fn clash_is_what_house_by_house_says() {
 #[test]
 fn a_resting_slot_is_free_for_others_after_90_days_p8_p9() {
     let mut resting = vec![0; REGISTER_SLOT];
-    // Day 100 is 041000, day 189 is 070800, day 190 is 070900.
-    assert_eq!(day_of(b"041000"), Some(100));
-    let delete = a_record(&[(record::FUNCTION, "D"), (record::DATE, "041000")]);
-    assert_eq!(
-        answers(&mut resting, b"041000", &[a_record(&[]), delete]),
-        [0, 0]
-    );
-    let other = a_record(&[(record::CALLING_NUMBER, "5550199")]);
-    assert_eq!(day_of(b"070900"), Some(190));
-    assert_eq!(answers(&mut resting.clone(), b"070900", &[other]), [0]);
-    assert_eq!(answers(&mut resting, b"070800", &[other]), [20]);
+    // Day 100 is 041170, day 189 is 070970, day 190 is 071070.
+    assert_eq!(day_of(b"041170"), Some(100));
+    let insert = a_record(&[(record::DATE, "010170")]);
+    let delete = a_record(&[(record::FUNCTION, "D"), (record::DATE, "041170")]);
+    assert_eq!(answers(&mut resting, b"041170", &[insert, delete]), [0, 0]);
+    let other = a_record(&[
+        (record::CALLING_NUMBER, "5550199"),
+        (record::DATE, "010170"),
+    ]);
+    assert_eq!(day_of(b"071070"), Some(190));
+    assert_eq!(answers(&mut resting.clone(), b"071070", &[other]), [0]);
+    assert_eq!(answers(&mut resting, b"070970", &[other]), [20]);
 }
 
 #[test]
@@ -255,6 +300,131 @@ fn lookup_and_load_file() {
         write_load::<Described>(&register, b"010100", NAME, cycle, &mut [0; 912][..room]).refusal
     };
     assert_eq!([refusal(1, 911), refusal(0, 911)], [25, 26]);
+}
+
+/// A slot as the cases name it: state, day and its record's date.
+fn a_slot(state: u8, number: u32, date: &str) -> Vec<u8> {
+    let mut slot = vec![0; SLOT_HEAD];
+    slot[0] = state;
+    slot[1..5].copy_from_slice(&number.to_be_bytes());
+    slot.extend(a_record(&[(record::DATE, date), (record::ESN, "83")]));
+    slot
+}
+
+fn a_free_slot() -> Vec<u8> {
+    vec![0; REGISTER_SLOT]
+}
+
+/// Converts a register of these slots: the answer, and the register afterwards.
+fn conversion(slots: &[Vec<u8>]) -> (Converted, Vec<u8>) {
+    let mut register = slots.concat();
+    let converted = convert_register::<Described>(&mut register);
+    (converted, register)
+}
+
+/// Such a conversion is done, and leaves these slots.
+fn converts(before: &[Vec<u8>], after: &[Vec<u8>]) {
+    assert_eq!(conversion(before), (Converted::default(), after.concat()));
+}
+
+/// Such a conversion is refused and changes nothing.
+fn is_refused(slots: &[Vec<u8>], refusal: u32, slot: u32) {
+    let expected = Converted { refusal, slot };
+    assert_eq!(conversion(slots), (expected, slots.concat()));
+}
+
+#[test]
+fn conversions_that_are_done() {
+    converts(&[a_slot(1, 0, "010100")], &[a_slot(1, 10957, "010100")]);
+    converts(
+        &[
+            a_slot(1, 59, "022900"),
+            a_free_slot(),
+            a_slot(2, 100, "010100"),
+            a_slot(3, 190, "022900"),
+        ],
+        &[
+            a_slot(1, 11016, "022900"),
+            a_free_slot(),
+            a_slot(2, 11057, "010100"),
+            a_slot(3, 11147, "022900"),
+        ],
+    );
+    converts(&[a_slot(3, 25567, "010100")], &[a_slot(3, 36524, "010100")]);
+    converts(&[a_free_slot()], &[a_free_slot()]);
+    // Nothing tells that an open slot was converted before: it moves again.
+    converts(&[a_slot(2, 10957, "010100")], &[a_slot(2, 21914, "010100")]);
+}
+
+#[test]
+fn conversions_with_a_late_slot() {
+    let (sound, late) = (a_slot(1, 0, "010100"), a_slot(3, 25568, "010100"));
+    is_refused(std::slice::from_ref(&late), 28, 0);
+    is_refused(&[a_slot(1, 25568, "010170")], 28, 0);
+    is_refused(&[a_slot(2, 30000, "010170")], 28, 0);
+    is_refused(&[sound, late.clone(), late], 28, 1);
+}
+
+#[test]
+fn conversions_of_unsound_registers() {
+    // 1 first, though the late slot is the lower one.
+    is_refused(&[a_slot(3, 25568, "010100"), a_slot(4, 0, "010100")], 1, 0);
+    // Held, and converted before.
+    is_refused(&[a_slot(1, 10957, "010100")], 1, 0);
+    is_refused(&[a_slot(3, 36525, "010100")], 1, 0);
+    let mut fifth_byte = a_slot(1, 0, "010100");
+    fifth_byte[5] = 1;
+    is_refused(&[fifth_byte], 1, 0);
+    is_refused(&[], 1, 0);
+    is_refused(&[vec![0; 519]], 1, 0);
+    is_refused(&[vec![0; 521]], 1, 0);
+    is_refused(&vec![a_free_slot(); 4097], 1, 0);
+}
+
+#[test]
+fn an_old_register_that_is_not_converted() {
+    let sound = |slot: &[u8]| {
+        let former = register_sound::<Former<Described>>(slot);
+        (former, register_sound::<Described>(slot))
+    };
+    assert_eq!(sound(&a_slot(1, 0, "010100")), (true, false));
+    assert_eq!(sound(&a_slot(1, 25568, "010170")), (true, false));
+    // Nothing tells of this one that it is old.
+    assert_eq!(sound(&a_slot(2, 25568, "010170")), (true, true));
+}
+
+/// Inserts a record of this date by a file of that one: the answer, and the day
+/// of the slot.
+fn inserted(dated: &str, file_date: &[u8; 6]) -> (u8, u32) {
+    let mut register = a_free_slot();
+    let answers = answers(
+        &mut register,
+        file_date,
+        &[a_record(&[(record::DATE, dated)])],
+    );
+    (answers[0], slot_day(&register).0)
+}
+
+#[test]
+fn inserts_across_the_century() {
+    assert_eq!(inserted("050193", b"111526"), (0, 8521));
+    assert_eq!(inserted("123199", b"111526"), (0, 10956));
+    assert_eq!(inserted("010170", b"111526"), (0, 0));
+    assert_eq!(inserted("123169", b"111526"), (11, 0));
+    assert_eq!(inserted("010100", b"123199"), (11, 0));
+    assert_eq!(inserted("123199", b"010100"), (0, 10956));
+    assert_eq!(inserted("010170", b"123169"), (0, 0));
+}
+
+#[test]
+fn load_files_across_the_century() {
+    let register = a_slot(1, 10957, "010100");
+    let refusal = |date: &[u8; 6]| {
+        let mut out = [0xee; 912];
+        write_load::<Described>(&register, date, NAME, 1, &mut out).refusal
+    };
+    let dates = [b"123199", b"010100", b"010101"];
+    assert_eq!(dates.map(refusal), [26, 0, 0]);
 }
 
 #[test]

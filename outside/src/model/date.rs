@@ -2,9 +2,29 @@
 
 use super::rules::Rules;
 
-/// A day number; 010100 is 0.
+/// A day number; "day 0 is 010170".
 #[derive(Clone, Copy, Debug, PartialEq, Eq, PartialOrd, Ord)]
 pub struct Day(pub u32);
+
+/// How the two digits of a year are read, and from which day on days count.
+#[derive(Clone, Copy, Debug, PartialEq, Eq)]
+pub enum Reading {
+    /// "YY 70 to 99 means 19YY and 00 to 69 means 20YY, and day 0 is 010170."
+    Present,
+    /// As it was before, and as old registers are written: "year 20YY. The day
+    /// number counts from 010100 as 0."
+    Former,
+}
+
+impl Reading {
+    /// The year that begins with day 0.
+    const fn first_year(self) -> u32 {
+        match self {
+            Reading::Present => 1970,
+            Reading::Former => 2000,
+        }
+    }
+}
 
 /// A file's cycle number.
 #[derive(Clone, Copy, Debug, PartialEq, Eq)]
@@ -14,7 +34,7 @@ pub struct Cycle(pub u32);
 #[derive(Clone, Copy, Debug, PartialEq, Eq)]
 pub struct Count(pub u32);
 
-/// 123199.
+/// 123169; by the former reading 123199. Both are of a hundred years.
 pub const LAST_DAY: Day = Day(36524);
 /// The highest cycle.
 pub const LAST_CYCLE: u32 = 999_999;
@@ -34,7 +54,7 @@ const BEFORE: [u32; 12] = {
     before
 };
 
-/// The day number of MMDDYY, "real calendar days, year 20YY".
+/// The day number of MMDDYY, "real calendar days".
 #[inline]
 pub fn day<R: Rules>(date: &[u8]) -> Option<Day> {
     let &[m1, m2, d1, d2, y1, y2] = date else {
@@ -42,20 +62,41 @@ pub fn day<R: Rules>(date: &[u8]) -> Option<Day> {
     };
     let month = two_digits(m1, m2)?;
     let of_month = two_digits(d1, d2)?;
-    let year = two_digits(y1, y2)?;
+    let year = full_year::<R>(two_digits(y1, y2)?);
     let index = month.checked_sub(1)? as usize;
-    // 2000 is a leap year too, so every fourth year from 0 is one.
-    let leap = R::LEAP_YEARS && year % 4 == 0;
+    let leap = R::LEAP_YEARS && is_leap(year);
     let length = MONTHS.get(index)? + u32::from(leap && month == FEBRUARY);
     if of_month == 0 || of_month > length {
         return None;
     }
+    let first = R::READING.first_year();
     let leap_days = if R::LEAP_YEARS {
-        year.div_ceil(4) + u32::from(leap && month > FEBRUARY)
+        leap_years_before(year) - leap_years_before(first) + u32::from(leap && month > FEBRUARY)
     } else {
         0
     };
-    Some(Day(year * 365 + leap_days + BEFORE[index] + of_month - 1))
+    let before_month = (year - first) * 365 + leap_days + BEFORE[index];
+    Some(Day(before_month + of_month - 1))
+}
+
+/// The year that two digits mean.
+#[inline]
+fn full_year<R: Rules>(two: u32) -> u32 {
+    match R::READING {
+        Reading::Present if two >= R::FIRST_OF_19 => 1900 + two,
+        _ => 2000 + two,
+    }
+}
+
+/// Every fourth year of 1970 to 2099 is a leap year, 2000 too.
+const fn is_leap(year: u32) -> bool {
+    year.is_multiple_of(4)
+}
+
+/// How many years before this one are a multiple of four; only the difference of
+/// two such numbers means anything.
+const fn leap_years_before(year: u32) -> u32 {
+    year.div_ceil(4)
 }
 
 #[inline]
@@ -64,12 +105,12 @@ fn two_digits(tens: u8, ones: u8) -> Option<u32> {
     (tens < 10 && ones < 10).then_some(u32::from(tens) * 10 + u32::from(ones))
 }
 
-/// MMDDYY of a day number up to 36524.
-pub fn date_of(day: Day) -> [u8; 6] {
+/// MMDDYY of a day number up to 36524, by this reading.
+pub fn date_of(reading: Reading, day: Day) -> [u8; 6] {
     let mut rest = day.0;
-    let mut year = 0;
+    let mut year = reading.first_year();
     loop {
-        let length = 365 + u32::from(year % 4 == 0);
+        let length = 365 + u32::from(is_leap(year));
         if rest < length {
             break;
         }
@@ -78,7 +119,7 @@ pub fn date_of(day: Day) -> [u8; 6] {
     }
     let mut month = 0;
     loop {
-        let leap = year % 4 == 0 && month + 1 == FEBRUARY as usize;
+        let leap = is_leap(year) && month + 1 == FEBRUARY as usize;
         let length = MONTHS[month] + u32::from(leap);
         if rest < length {
             break;
@@ -87,7 +128,8 @@ pub fn date_of(day: Day) -> [u8; 6] {
         month += 1;
     }
     let mut date = [b'0'; 6];
-    for (at, value) in [month as u32 + 1, rest + 1, year].into_iter().enumerate() {
+    let numbers = [month as u32 + 1, rest + 1, year % 100];
+    for (at, value) in numbers.into_iter().enumerate() {
         date[2 * at] += (value / 10) as u8;
         date[2 * at + 1] += (value % 10) as u8;
     }

@@ -2,6 +2,7 @@
 //! is right, and it is the speed that the product is measured against.
 
 pub mod apply;
+pub mod convert;
 pub mod date;
 pub mod desk;
 pub mod file;
@@ -18,8 +19,9 @@ pub mod take;
 #[cfg(test)]
 mod cases;
 
+pub use convert::convert_register;
 pub use load::write_load;
 pub use lookup::lookup;
-pub use results::{Found, Loaded, Taken};
-pub use rules::{Described, Rules};
+pub use results::{Converted, Found, Loaded, Taken};
+pub use rules::{Described, Former, Rules};
 pub use take::{take_data, take_guide};

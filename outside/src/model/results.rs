@@ -1,4 +1,4 @@
-//! What the four functions give back.
+//! What the five functions give back.
 
 /// The answer to a take.
 #[repr(C)]
@@ -43,4 +43,14 @@ pub struct Found {
     pub slot: u32,
     /// Slots looked at.
     pub looked: u32,
+}
+
+/// The answer to a conversion.
+#[repr(C)]
+#[derive(Clone, Copy, Debug, Default, PartialEq, Eq)]
+pub struct Converted {
+    /// The refusal's number, 0 if none.
+    pub refusal: u32,
+    /// The lowest slot, from 0, whose day has no reading now; only in refusal 28.
+    pub slot: u32,
 }

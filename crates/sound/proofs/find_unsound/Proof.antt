@@ -4,17 +4,17 @@ use Prim.Native.Nat.{_-_, _/_}
 use lib.ListN.{length}
 use denote.Ref.{now}
 use borrow.Author.Needs.{needs}
-use Rattle.rules.specs.Slots.{unsoundSlot, isUnsound}
+use Rattle.rules.specs.Slots.{unsoundBy, isUnsoundBy}
 use Rattle.rules.proofs.WalkLaws.{Passed, passed-none, passed-more, passed-hit, passed-all}
 use Rattle.rules.proofs.PlaceLaws.{place-test}
 use Rattle.sound.proofs.find_unsound.Tie as tie
 use Rattle.sound.proofs.find_unsound.Statement.{statement}
 
 abbrev Inv-loop : tie.InvT-loop
-Inv-loop register n i₀ i = Passed (unsoundSlot register) n i
+Inv-loop reading register n i₀ i = Passed (unsoundBy reading register) n i
 
 abbrev μ-loop : tie.MeasureT-loop
-μ-loop register n i₀ i = n - i
+μ-loop reading register n i₀ i = n - i
 
 loop-holds : tie.Need-loop-holds Inv-loop μ-loop
 loop-holds c = passed-none _ _
@@ -37,17 +37,19 @@ part-is-unsound-end c = search needs
 is-unsound-requires : tie.Need-is-unsound-requires Inv-loop μ-loop
 is-unsound-requires c κs = search needs
 
-add-t14 : tie.Need-add-t14 Inv-loop μ-loop
-add-t14 c = search needs
+add-t15 : tie.Need-add-t15 Inv-loop μ-loop
+add-t15 c = search needs
 
 returns : tie.Need-returns Inv-loop μ-loop
-unfolding unsoundSlot
+unfolding unsoundBy
 returns c =
     let loop-test = c .before .before .before .loop-test in
     let at-loop = c .before .before .before .before in
-    let register = at-loop .before .before .args .register .now in
-    passed-hit (unsoundSlot register) (length register / 520) (at-loop .loop .i) (at-loop .loop .inv) (loop-test .taken)
-    (place-test 520 isUnsound register (at-loop .loop .i) (c .before .is-unsound .ensures) (c .if1 .taken))
+    let at-start = at-loop .before .before .args in
+    let reading = at-start .reading in
+    let register = at-start .register .now in
+    passed-hit (unsoundBy reading register) (length register / 520) (at-loop .loop .i) (at-loop .loop .inv) (loop-test .taken)
+    (place-test 520 (isUnsoundBy reading) register (at-loop .loop .i) (c .before .is-unsound .ensures) (c .if1 .taken))
 
 add-i : tie.Need-add-i Inv-loop μ-loop
 add-i c = search needs
@@ -56,19 +58,23 @@ loop-less : tie.Need-loop-less Inv-loop μ-loop
 loop-less c = search needs
 
 loop-again : tie.Need-loop-again Inv-loop μ-loop
-unfolding unsoundSlot
+unfolding unsoundBy
 loop-again c =
     let loop-test = c .before .before .before .loop-test in
     let at-loop = c .before .before .before .before in
-    let register = at-loop .before .before .args .register .now in
-    passed-more (unsoundSlot register) (length register / 520) (at-loop .loop .i) (at-loop .loop .inv) (loop-test .taken)
-    (place-test 520 isUnsound register (at-loop .loop .i) (c .before .is-unsound .ensures) (c .if1 .left))
+    let at-start = at-loop .before .before .args in
+    let reading = at-start .reading in
+    let register = at-start .register .now in
+    passed-more (unsoundBy reading register) (length register / 520) (at-loop .loop .i) (at-loop .loop .inv) (loop-test .taken)
+    (place-test 520 (isUnsoundBy reading) register (at-loop .loop .i) (c .before .is-unsound .ensures) (c .if1 .left))
 
 returns-2 : tie.Need-returns-2 Inv-loop μ-loop
 returns-2 c =
     let at-loop = c .before in
-    let register = at-loop .before .before .args .register .now in
-    passed-all (unsoundSlot register) (length register / 520) (at-loop .loop .i) (at-loop .loop .inv) (c .loop-test .left)
+    let at-start = at-loop .before .before .args in
+    let reading = at-start .reading in
+    let register = at-start .register .now in
+    passed-all (unsoundBy reading register) (length register / 520) (at-loop .loop .i) (at-loop .loop .inv) (c .loop-test .left)
 
 pub find-unsound-spec : {M : Type 1} → statement M
 find-unsound-spec =
@@ -83,7 +89,7 @@ find-unsound-spec =
     part-is-unsound-start
     part-is-unsound-end
     is-unsound-requires
-    add-t14
+    add-t15
     returns
     add-i
     loop-less

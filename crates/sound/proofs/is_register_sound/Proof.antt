@@ -1,53 +1,15 @@
--- A bad length makes the conjunction false. Else the walk decides: it found an unsound slot, or nothing, and then all are sound.
-use mathlib.Core.Path.{ap}
+-- To be sound as dates are read now is to be sound by the present reading (sound-now), and that is what is_sound_by promises.
+use mathlib.Core.Path.{_∙_}
 use borrow.Author.Needs.{needs}
-use Rattle.rules.specs.declared.Sought.{Sought}
-use Rattle.rules.specs.Slots.{registerSound}
+use Rattle.rules.proofs.SlotLaws.{sound-now}
 use Rattle.sound.proofs.is_register_sound.Tie as tie
 use Rattle.sound.proofs.is_register_sound.Statement.{statement}
 
-is-register-long-requires : tie.Need-is-register-long-requires
-is-register-long-requires c κs = search needs
-
-find-unsound-requires : tie.Need-find-unsound-requires
-find-unsound-requires c κs = search needs
-
-enum-told : tie.Need-enum-told
-enum-told c = search needs
-
-enum-told-2 : tie.Need-enum-told-2
-enum-told-2 c = search needs
+is-sound-by-requires : tie.Need-is-sound-by-requires
+is-sound-by-requires c κs = search needs
 
 returns : tie.Need-returns
-unfolding registerSound
-returns c =
-    let at-find-unsound = c .before .before in
-    let if1 = at-find-unsound .before .if1 in
-    let is-register-long = at-find-unsound .before .before .is-register-long in
-    let e = ap (λ (x : Sought). x .found) (at-find-unsound .find-unsound .ensures) in
-    rw (← is-register-long .ensures, if1 .taken, ← e, c .enum-told2 .given .1)
-
-returns-2 : tie.Need-returns-2
-unfolding registerSound
-returns-2 c =
-    let at-find-unsound = c .before .before in
-    let if1 = at-find-unsound .before .if1 in
-    let is-register-long = at-find-unsound .before .before .is-register-long in
-    let e = ap (λ (x : Sought). x .found) (at-find-unsound .find-unsound .ensures) in
-    rw (← is-register-long .ensures, if1 .taken, ← e, c .enum-told .given .1)
-
-returns-3 : tie.Need-returns-3
-unfolding registerSound
-returns-3 c = rw (← c .before .is-register-long .ensures, c .if1 .left)
+returns c = c .is-sound-by .ensures ∙ sound-now (c .before .before .args .register .now)
 
 pub is-register-sound-spec : {M : Type 1} → statement M
-is-register-sound-spec =
-    tie.close
-    (tie.spec
-    is-register-long-requires
-    find-unsound-requires
-    enum-told
-    enum-told-2
-    returns
-    returns-2
-    returns-3)
+is-register-sound-spec = tie.close (tie.spec is-sound-by-requires returns)

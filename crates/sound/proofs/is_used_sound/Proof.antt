@@ -1,7 +1,7 @@
--- The tests stand in the order of usedSound: where one fails the conjunction is false, a date field without a day is false by its
+-- The tests stand in the order of usedSoundBy: where one fails the conjunction is false, a date field without a day is false by its
 -- arm, and the last test is does_day_fit's own promise.
 use borrow.Author.Needs.{needs}
-use Rattle.rules.specs.Slots.{usedSound, isZero}
+use Rattle.rules.specs.Slots.{isZero}
 use Rattle.sound.proofs.is_used_sound.Tie as tie
 use Rattle.sound.proofs.is_used_sound.Statement.{statement}
 
@@ -23,8 +23,8 @@ rec-requires c κs = search needs
 does-fit-requires : tie.Need-does-fit-requires
 does-fit-requires c κs = search needs
 
-date-requires : tie.Need-date-requires
-date-requires c κs = search needs
+date-by-requires : tie.Need-date-by-requires
+date-by-requires c κs = search needs
 
 enum-known-date : tie.Need-enum-known-date
 enum-known-date c = search needs
@@ -33,12 +33,12 @@ enum-told : tie.Need-enum-told
 enum-told c = search needs
 
 returns : tie.Need-returns
-unfolding usedSound isZero
+unfolding isZero
 returns c =
-    let at-date = c .before .before in
-    let if3 = at-date .before .if3 in
-    let does-fit = at-date .before .before .does-fit in
-    let at-rec = at-date .before .before .before in
+    let at-date-by = c .before .before in
+    let if3 = at-date-by .before .if3 in
+    let does-fit = at-date-by .before .before .does-fit in
+    let at-rec = at-date-by .before .before .before in
     let if2 = at-rec .before .if2 in
     let all-equal = at-rec .before .before .all-equal in
     let at-part-of = at-rec .before .before .before in
@@ -55,7 +55,7 @@ returns c =
       ← at-rec .rec .ensures,
       ← does-fit .ensures,
       if3 .taken,
-      ← at-date .date .ensures,
+      ← at-date-by .date-by .ensures,
       c .enum-told .given .1,
     )
 
@@ -66,13 +66,13 @@ does-day-fit-requires : tie.Need-does-day-fit-requires
 does-day-fit-requires c κs = search needs
 
 returns-2 : tie.Need-returns-2
-unfolding usedSound isZero
+unfolding isZero
 returns-2 c =
-    let date2 = c .before .before .before .date2 in
-    let at-date = c .before .before .before .before .before in
-    let if3 = at-date .before .if3 in
-    let does-fit = at-date .before .before .does-fit in
-    let at-rec = at-date .before .before .before in
+    let date = c .before .before .before .date in
+    let at-date-by = c .before .before .before .before .before in
+    let if3 = at-date-by .before .if3 in
+    let does-fit = at-date-by .before .before .does-fit in
+    let at-rec = at-date-by .before .before .before in
     let if2 = at-rec .before .if2 in
     let all-equal = at-rec .before .before .all-equal in
     let at-part-of = at-rec .before .before .before in
@@ -89,13 +89,13 @@ returns-2 c =
       ← at-rec .rec .ensures,
       ← does-fit .ensures,
       if3 .taken,
-      ← at-date .date .ensures,
-      date2 .given .1,
+      ← at-date-by .date-by .ensures,
+      date .given .1,
       ← c .before .day .ensures,
     ) (c .does-day-fit .ensures)
 
 returns-3 : tie.Need-returns-3
-unfolding usedSound isZero
+unfolding isZero
 returns-3 c =
     let at-rec = c .before .before in
     let if2 = at-rec .before .if2 in
@@ -117,7 +117,7 @@ returns-3 c =
     )
 
 returns-4 : tie.Need-returns-4
-unfolding usedSound isZero
+unfolding isZero
 returns-4 c =
     let at-part-of = c .before .before in
     let if1 = at-part-of .before .if1 in
@@ -126,7 +126,6 @@ returns-4 c =
     rw (← state .ensures, ← is-used .ensures, if1 .taken, ← at-part-of .part-of .ensures, ← c .before .all-equal .ensures, c .if2 .left)
 
 returns-5 : tie.Need-returns-5
-unfolding usedSound
 returns-5 c = rw (← c .before .before .state .ensures, ← c .before .is-used .ensures, c .if1 .left)
 
 pub is-used-sound-spec : {M : Type 1} → statement M
@@ -139,7 +138,7 @@ is-used-sound-spec =
     all-equal-requires
     rec-requires
     does-fit-requires
-    date-requires
+    date-by-requires
     enum-known-date
     enum-told
     returns

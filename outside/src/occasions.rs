@@ -1,0 +1,176 @@
+//! What must come up beside the numbers: conversions of each kind, and decisions
+//! between a date of the last century and one of this.
+
+use crate::call::{Call, Op, Outcome};
+use crate::model::convert::{LAST_FORMER_DAY, MOVED};
+use crate::model::date::{day, Day};
+use crate::model::layout::{header, record, EDGE, RECORD};
+use crate::model::store::{
+    is_live, register_fits, register_sound, slot_day, slot_number, slots, FREE, HELD, OPEN, RESTING,
+};
+use crate::model::{Described, Former};
+
+/// Whether a call and its outcome are such an occasion.
+type CameUp = fn(&Call, &Outcome) -> bool;
+
+/// All of them, with their names.
+pub const OCCASIONS: [(&str, CameUp); 16] = [
+    ("a held slot converted", is_converted::<HELD>),
+    ("an open slot converted", is_converted::<OPEN>),
+    ("a resting slot converted", is_converted::<RESTING>),
+    ("a slot converted to the last day", last_day),
+    ("a converted register converted again", again),
+    ("a held late slot", is_late::<HELD>),
+    ("an open late slot", is_late::<OPEN>),
+    ("a resting late slot", is_late::<RESTING>),
+    ("a late slot of the first late day", first_late_day),
+    ("a late slot behind a sound one", late_behind_sound),
+    ("a late slot before an unsound one", late_before_unsound),
+    ("11 across the century", too_new),
+    ("17 across the century", too_old),
+    ("20 across the century", no_room),
+    ("a slot reused across the century", reused),
+    ("26 across the century", load_too_old),
+];
+
+/// The register that is lent; every call has it first.
+fn register(call: &Call) -> &[u8] {
+    &call.lent[0]
+}
+
+fn used(register: &[u8]) -> impl Iterator<Item = &[u8]> {
+    slots(register).filter(|slot| slot[0] != FREE)
+}
+
+/// Whether a conversion is answered so.
+fn converts(call: &Call, outcome: &Outcome, refusal: u32) -> bool {
+    call.op == Op::ConvertRegister && outcome.refusal() == refusal
+}
+
+fn is_converted<const STATE: u8>(call: &Call, outcome: &Outcome) -> bool {
+    converts(call, outcome, 0) && slots(register(call)).any(|slot| slot[0] == STATE)
+}
+
+fn last_day(call: &Call, outcome: &Outcome) -> bool {
+    converts(call, outcome, 0)
+        && slots(register(call)).any(|slot| slot_day(slot) == LAST_FORMER_DAY)
+}
+
+/// By its days, at least, the register may have been converted before.
+fn again(call: &Call, outcome: &Outcome) -> bool {
+    converts(call, outcome, 0)
+        && used(register(call)).next().is_some()
+        && used(register(call)).all(|slot| slot_day(slot).0 >= MOVED)
+}
+
+/// The slot that refusal 28 names.
+fn late_slot<'a>(call: &'a Call, outcome: &Outcome) -> Option<&'a [u8]> {
+    let late = converts(call, outcome, 28);
+    slots(register(call))
+        .nth(outcome.returned[1] as usize)
+        .filter(|_| late)
+}
+
+fn is_late<const STATE: u8>(call: &Call, outcome: &Outcome) -> bool {
+    late_slot(call, outcome).is_some_and(|slot| slot[0] == STATE)
+}
+
+fn first_late_day(call: &Call, outcome: &Outcome) -> bool {
+    late_slot(call, outcome).is_some_and(|slot| slot_day(slot).0 == LAST_FORMER_DAY.0 + 1)
+}
+
+fn late_behind_sound(call: &Call, outcome: &Outcome) -> bool {
+    let before = outcome.returned[1] as usize;
+    converts(call, outcome, 28)
+        && slots(register(call))
+            .take(before)
+            .any(|slot| slot[0] != FREE)
+}
+
+/// Refusal 1 comes first even if the late slot is the lower one.
+fn late_before_unsound(call: &Call, outcome: &Outcome) -> bool {
+    // A slot is a register of one.
+    let is_sound = |slot: &&[u8]| register_sound::<Former<Described>>(slot);
+    converts(call, outcome, 1)
+        && register_fits(register(call))
+        && slots(register(call))
+            .take_while(is_sound)
+            .any(|slot| slot[0] != FREE && slot_day(slot) > LAST_FORMER_DAY)
+}
+
+fn is_last_century(date: &[u8]) -> bool {
+    day::<Described>(date).is_some_and(|Day(number)| number < MOVED)
+}
+
+fn is_this_century(date: &[u8]) -> bool {
+    day::<Described>(date).is_some_and(|Day(number)| number >= MOVED)
+}
+
+/// The records of a data file that were answered so.
+fn answered<'a>(
+    call: &'a Call,
+    outcome: &'a Outcome,
+    answer: u8,
+) -> impl Iterator<Item = &'a [u8]> {
+    let taken = call.op == Op::TakeData && outcome.refusal() == 0;
+    let parts = taken.then(|| {
+        let applied = outcome.returned[3] as usize;
+        (&call.lent[2][EDGE..], &outcome.lent[3][..applied])
+    });
+    parts
+        .into_iter()
+        .flat_map(|(records, answers)| records.chunks_exact(RECORD).zip(answers))
+        .filter(move |(_, &given)| given == answer)
+        .map(|(whole, _)| whole)
+}
+
+fn file_date(call: &Call) -> &[u8] {
+    header::DATE.of(&call.lent[2])
+}
+
+/// A record of this century in a file of the last.
+fn too_new(call: &Call, outcome: &Outcome) -> bool {
+    answered(call, outcome, 11)
+        .any(|whole| is_last_century(file_date(call)) && is_this_century(record::DATE.of(whole)))
+}
+
+/// A record of the last century for a number that has a day of this.
+fn too_old(call: &Call, outcome: &Outcome) -> bool {
+    answered(call, outcome, 17).any(|whole| {
+        let number = &whole[record::NPA.first - 1..record::CALLING_NUMBER.last];
+        is_last_century(record::DATE.of(whole))
+            && used(register(call))
+                .any(|slot| slot_number(slot) == number && slot_day(slot).0 >= MOVED)
+    })
+}
+
+fn rests_since_last_century(slot: &[u8]) -> bool {
+    slot[0] == RESTING && slot_day(slot).0 < MOVED
+}
+
+/// A number rests since the last century, in a file of this not yet long enough.
+fn no_room(call: &Call, outcome: &Outcome) -> bool {
+    answered(call, outcome, 20).next().is_some()
+        && is_this_century(file_date(call))
+        && slots(register(call)).any(rests_since_last_century)
+}
+
+/// A number rests since the last century, and a file of this gave its slot away.
+fn reused(call: &Call, outcome: &Outcome) -> bool {
+    call.op == Op::TakeData
+        && outcome.refusal() == 0
+        && is_this_century(file_date(call))
+        && slots(register(call))
+            .zip(slots(&outcome.lent[0]))
+            .any(|(before, after)| {
+                rests_since_last_century(before) && slot_number(before) != slot_number(after)
+            })
+}
+
+/// A load file dated in the last century, an entry of this.
+fn load_too_old(call: &Call, outcome: &Outcome) -> bool {
+    call.op == Op::WriteLoad
+        && outcome.refusal() == 26
+        && is_last_century(&call.lent[1])
+        && slots(register(call)).any(|slot| is_live(slot) && slot_day(slot).0 >= MOVED)
+}
