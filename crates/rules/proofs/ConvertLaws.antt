@@ -25,14 +25,14 @@ use Rattle.rules.specs.declared.Found.{Found}
 use Rattle.rules.specs.declared.Found.the-variants.{At, Nothing}
 use Rattle.rules.specs.Walks.{find}
 use Rattle.rules.specs.Slots.{slots, slotAt, withSlot, stateOf, slotDay, recordOf, slotOf, restated, isFree, isHeld, isUsed, isLive, isZero}
-use Rattle.rules.specs.Slots.{dayFits, slotSound, slotSoundBy, unsoundBy, registerSoundBy}
+use Rattle.rules.specs.Slots.{dayFits, slotSound, slotSoundBy, registerSoundBy}
 use Rattle.rules.specs.Demands.{OneSlot, AllLie}
 use Rattle.rules.specs.Converts.{isLate, lateAt, convertedSlot, convertedTo, conversion}
 use Rattle.rules.specs.Converts.{Moved, ConvertDone, ConvertAnswered, ConvertsAnswer, ConvertKeeps, HeldOnce, OrderStays, DistanceStays, OneConvert}
 use Rattle.rules.proofs.WalkLaws.{clash-bool, and-rest, not-true, find-some, find-none, find-below}
 use Rattle.rules.proofs.PlaceLaws.{part-length}
 use Rattle.rules.proofs.SlotLaws.{state-slot, day-slot, record-slot, length-slot, restated-slot, record-length, slot-same, slot-other, length-with, length-slot-at, zeros-are, zero-sound}
-use Rattle.rules.proofs.KeepSound.{AllSound, all-sound, register-sound, same-good, slots-sound, zeros-slot, slot-sound, UsedBy, used-by, used-sound}
+use Rattle.rules.proofs.KeepSound.{AllSound, slots-sound, slots-sound-by, register-sound, same-good, zeros-slot, slot-sound, UsedBy, used-by, used-sound}
 
 -- ---- a day read anew
 
@@ -239,13 +239,11 @@ module _ (R : List ℕ) where
           slot-other (convertedTo R i) i (within i h) (convertedSlot (slotAt (convertedTo R i) i)) (length-next i h) j n
           ∙ ih (omega arith)
 
-  -- slot by slot, where it is sound by the former reading
-  was : registerSoundBy Former R ≡ true → AllSound 520 (slotSoundBy Former) R
-  unfolding registerSoundBy unsoundBy
-  was e = all-sound 520 (slotSoundBy Former) R e
-
   -- all of it
   module _ (former : registerSoundBy Former R ≡ true) (none : find (lateAt R) (slots R) ≡ Nothing) where
+    was : AllSound 520 (slotSoundBy Former) R
+    was = slots-sound-by Former R former
+
     abbrev then-all : List ℕ
     then-all = convertedTo R (slots R)
 
@@ -265,17 +263,17 @@ module _ (R : List ℕ) where
           former = former;
           none = not-late;
           moved = λ k h.
-              rw (all-at k h) (moved-slot (slotAt R k) (length-slot-at R k h) (was former .each k h) (not-late k h));
+              rw (all-at k h) (moved-slot (slotAt R k) (length-slot-at R k h) (was .each k h) (not-late k h));
           sound =
               register-sound then-all
               record {
-                long = same-good 520 R then-all all-length (was former .long);
+                long = same-good 520 R then-all all-length (was .long);
                 each = λ k h. each k (rw all-length at h);
               };
         }
       where
         each : (k : ℕ) → k < slots R → slotSound (slotAt then-all k) ≡ true
-        each k h = rw (all-at k h) (sound-slot (slotAt R k) (length-slot-at R k h) (was former .each k h) (not-late k h))
+        each k h = rw (all-at k h) (sound-slot (slotAt R k) (length-slot-at R k h) (was .each k h) (not-late k h))
 
 pub convert-answered : ConvertsAnswer
 unfolding ConvertsAnswer conversion
@@ -388,7 +386,7 @@ not-held s p q = go (isHeld (stateOf s)) refl
 
 pub held-once : HeldOnce
 unfolding HeldOnce
-held-once R former now k w = not-held (slotAt R k) (was R former .each k w) (slots-sound R now .each k w)
+held-once R former now k w = not-held (slotAt R k) (slots-sound-by Former R former .each k w) (slots-sound R now .each k w)
 
 -- ---- one outcome
 

@@ -34,7 +34,7 @@ use Rattle.rules.specs.declared.Found.the-variants.{Nothing}
 use Rattle.rules.specs.declared.Checked.{Checked}
 use Rattle.rules.specs.declared.Checked.the-variants.{Good, Refused}
 use Rattle.rules.specs.Walks.{find, isNothing}
-use Rattle.rules.specs.Slots.{place, goodLength, slots, slotAt, stateOf, slotDay, recordOf, slotOf, isFree, isHeld, isUsed, isZero, isEntryCode, fitsSlot, dayFits, usedSound, slotSound, slotSoundBy, unsoundSlot, registerSound, rowSlots, rowSlotAt, withRowSlot, isPresent, isVacant, rowOf, rowSlotOf, freeRowSlot, presentSound, rowSlotSound, unsoundRowSlot, guideSound}
+use Rattle.rules.specs.Slots.{place, goodLength, slots, slotAt, stateOf, slotDay, recordOf, slotOf, isFree, isHeld, isUsed, isZero, isEntryCode, fitsSlot, dayFits, usedSound, slotSound, slotSoundBy, unsoundSlot, registerSound, unsoundBy, registerSoundBy, rowSlots, rowSlotAt, withRowSlot, isPresent, isVacant, rowOf, rowSlotOf, freeRowSlot, presentSound, rowSlotSound, unsoundRowSlot, guideSound}
 use Rattle.rules.specs.Records.{codedOf, filedOf, stores, stateAfter, shown, applied}
 use Rattle.rules.specs.Rows.{rowCodeOf, rowApplied}
 use Rattle.rules.specs.Takes.{Stores, lineSize, lineFault, linesIn, lineAt, checked, refusedFile, lineApplied, after, answerAt, appliedFile, taken}
@@ -57,7 +57,7 @@ pub record AllSound (w : ℕ) (p : List ℕ → Bool) (s : List ℕ) : Type 0 wh
 
 module _ (w : ℕ) (p : List ℕ → Bool) (s : List ℕ) where
   -- it is so if no place fails
-  pub all-sound : goodLength w s && isNothing (find (λ i. not (p (place w s i))) (length s / w)) ≡ true → AllSound w p s
+  all-sound : goodLength w s && isNothing (find (λ i. not (p (place w s i))) (length s / w)) ≡ true → AllSound w p s
   all-sound e =
       let l = goodLength w s in
       let o = find (λ i. not (p (place w s i))) (length s / w) in
@@ -85,6 +85,11 @@ RowsSound G = AllSound 208 rowSlotSound G
 pub slots-sound : (R : List ℕ) → registerSound R ≡ true → SlotsSound R
 unfolding registerSound unsoundSlot
 slots-sound R e = all-sound 520 slotSound R e
+
+-- and by either reading of dates
+pub slots-sound-by : (x : Reading) (R : List ℕ) → registerSoundBy x R ≡ true → AllSound 520 (slotSoundBy x) R
+unfolding registerSoundBy unsoundBy
+slots-sound-by x R e = all-sound 520 (slotSoundBy x) R e
 
 pub register-sound : (R : List ℕ) → SlotsSound R → registerSound R ≡ true
 unfolding registerSound unsoundSlot

@@ -110,7 +110,7 @@ ConvertKeeps =
     → StoresKept (record { register = conversion R .register; guide = G })
 
 -- ---- "converted once": a register with a held slot is sound by one reading at most, so a second conversion of it is refused by 1, and
--- so are the takes and the load file of one that was not converted. Where no slot is held, nothing tells the readings apart
+-- so are the takes and the load file of one that was not converted. One without a held slot may be sound by both
 
 unfoldable pub HeldOnce : Type 0
 HeldOnce =

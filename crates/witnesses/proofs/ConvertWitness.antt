@@ -1,15 +1,21 @@
 -- The conversion is not empty: the register that the run of `Witness` leaves, its one day counted as before, is converted and is that
 -- register again; so what `convert-answered` says of a conversion that is done, it says of this one. The last day that has a reading, the
--- day after it, a second conversion with and without a held slot, and no register, beside it. All is computed. Assumes nothing.
+-- day after it, a second conversion with and without a held slot, and no register, beside it. A run that leaves an open number meets what
+-- `convert-keeps` and `held-once` ask for: its register is sound by both readings. All is computed. Assumes nothing.
 use mathlib.Core.Path.{_≡_, refl}
-use mathlib.Core.List.{List, [], _∷_}
+use mathlib.Core.Bool.{false}
+use mathlib.Core.List.{List, [], _∷_, _++_}
 use Prim.Native.Nat.{ℕ}
+use native.Mathlib.Omega.{arith}
 use Rattle.calendar.specs.Former.{formerOf}
-use Rattle.rules.specs.Slots.{slotAt, slotDay, restated, unsoundBy, registerSoundBy}
-use Rattle.rules.specs.Converts.{lateAt, convertedSlot, convertedTo, Conversion, conversion, ConvertDone, ConvertsAnswer}
-use Rattle.rules.specs.Demands.{start, run}
-use Rattle.rules.proofs.ConvertLaws.{convert-answered}
-use Rattle.witnesses.proofs.Witness.{files, seen as run-seen}
+use Rattle.rules.specs.declared.Kind.the-variants.{Data, Guide}
+use Rattle.rules.specs.Slots.{slots, slotAt, stateOf, slotDay, isHeld, restated, unsoundBy, registerSoundBy}
+use Rattle.rules.specs.Converts.{lateAt, convertedSlot, convertedTo, Conversion, conversion, ConvertDone, ConvertsAnswer, ConvertKeeps, HeldOnce}
+use Rattle.rules.specs.Demands.{File, Office, start, run, StoresKept}
+use Rattle.rules.proofs.Keep.{demand3}
+use Rattle.rules.proofs.KeepSound.{run-sound}
+use Rattle.rules.proofs.ConvertLaws.{convert-answered, convert-keeps, held-once}
+use Rattle.witnesses.proofs.Witness.{opening, closing, line, guideFile, files, seen as run-seen}
 
 -- the register of one slot that the run leaves: held, its day 10957, its record of 010100
 abbrev register : List ℕ
@@ -53,3 +59,30 @@ again = refl
 pub done : ConvertDone (with 1 0) (conversion (with 1 0) .register)
 unfolding seen ConvertsAnswer
 done = convert-answered (with 1 0) .done refl
+
+-- ---- a run that leaves an open number
+
+-- the row, and I and U of A
+abbrev opens : List File
+opens =
+    record { kind = Guide; bytes = guideFile; answers = 1 ∷ []; last = 0 }
+    ∷ record { kind = Data; bytes = opening ++ (line 73 65 ++ (line 85 65 ++ closing 50)); answers = 1 ∷ 1 ∷ []; last = 0 }
+    ∷ []
+
+abbrev office : Office
+office = run opens (start 1 1)
+
+abbrev old : List ℕ
+old = office .stores .register
+
+-- what the third demand says of its stores is so after the conversion
+pub keeps : StoresKept (record { register = conversion old .register; guide = office .stores .guide })
+unfolding seen ConvertKeeps
+keeps = convert-keeps old (office .stores .guide) refl (demand3 1 1 opens .stores)
+
+-- and sound by both readings, it has no held slot
+pub not-held : isHeld (stateOf (slotAt old 0)) ≡ false
+unfolding seen HeldOnce
+not-held =
+    held-once old refl (run-sound 1 1 (omega arith) (omega arith) (omega arith) (omega arith) opens .register) 0
+    (let e : slots old ≡ 1 = refl in omega arith)

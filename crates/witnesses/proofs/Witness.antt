@@ -27,11 +27,11 @@ abbrev pub day : List ℕ
 day = 48 ∷ 49 ∷ 48 ∷ 49 ∷ 48 ∷ 48 ∷ []
 
 -- a header of cycle 1
-abbrev opening : List ℕ
+abbrev pub opening : List ℕ
 opening = 85 ∷ 72 ∷ 76 ∷ 32 ∷ 32 ∷ (day ++ (78 ∷ (spaces 49 ++ (49 ∷ (spaces 137 ++ (42 ∷ []))))))
 
 -- a trailer; n is the digit of its record count
-abbrev closing : ℕ → List ℕ
+abbrev pub closing : ℕ → List ℕ
 closing n = 85 ∷ 84 ∷ 76 ∷ 32 ∷ 32 ∷ (day ++ (78 ∷ (spaces 57 ++ (n ∷ (spaces 129 ++ (42 ∷ []))))))
 
 -- a row B 1-9 of street A in C, TX, with ESN 83
@@ -51,7 +51,7 @@ line c x =
     (spaces 29 ++ (day ++ (spaces 4 ++ (x ∷ (spaces 250 ++ (42 ∷ []))))))))))))))))
 
 -- the row, in a file
-abbrev guideFile : List ℕ
+abbrev pub guideFile : List ℕ
 guideFile = opening ++ (rowLine ++ closing 49)
 
 -- I and U of A, M of B, then C of A and C of B

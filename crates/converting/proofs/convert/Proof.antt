@@ -10,18 +10,17 @@ use Rattle.calendar.specs.declared.Reading.the-variants.{Former}
 use Rattle.rules.specs.declared.Found.the-variants.{At}
 use Rattle.rules.specs.declared.Sought.{Sought}
 use Rattle.rules.specs.Walks.{find}
-use Rattle.rules.specs.Slots.{slots, slotSoundBy, unsoundBy, registerSoundBy}
+use Rattle.rules.specs.Slots.{slots, registerSoundBy}
 use Rattle.rules.specs.Converts.{lateAt, conversion}
 use Rattle.rules.proofs.WalkLaws.{find-some}
 use Rattle.rules.proofs.LookupLaws.{long-few}
-use Rattle.rules.proofs.KeepSound.{all-sound}
+use Rattle.rules.proofs.KeepSound.{slots-sound-by}
 use Rattle.converting.proofs.convert.Statement.{statement}
 use Rattle.converting.proofs.convert.Tie as tie
 
 below : (R : List ℕ) (k : ℕ) → registerSoundBy Former R ≡ true → find (lateAt R) (slots R) ≡ At k → k < 4294967296
-unfolding registerSoundBy unsoundBy
 below R k s e =
-    let few = long-few R (all-sound 520 (slotSoundBy Former) R s .long) in
+    let few = long-few R (slots-sound-by Former R s .long) in
     omega (arith, few, find-some (lateAt R) (slots R) k e .0)
 
 is-sound-by-requires : tie.Need-is-sound-by-requires
