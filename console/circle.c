@@ -1,59 +1,22 @@
 /*
- * circle: an example of the whole circle, from a guide file and data files through a load file back to a register, and
- * of converting a register that was written before, when days counted from 010100.
+ * circle: an example of the whole circle, from a guide file and data files through a load file back to a register; of a
+ * tagged record (Version 3.1) that is read, framed and taken, and written back as the same text; and of converting a
+ * register that was written before, when days counted from 010100.
  *
  *   circle            runs the circle and tells each step
  *   circle REGISTER   also writes the register to the file REGISTER, for `console` to look at
  *
  * Exit status: 0 the circle closes, 1 something came out otherwise, 2 bad usage, 3 no memory, or the output or the file
- * cannot be written.
- *
- * How a file is framed. It has a header of 200 bytes, lines of one length (512 bytes for a data record, 200 for a guide
- * row) and a trailer of 200 bytes, with nothing between them. Each of these begins as spaces and ends in `*`; a field's
- * text stands at the field's first position, and only the trailer's count stands at its end. Header and trailer have
- * the same date and name; the header's cycle is the next after the last file of this kind.
+ * cannot be written. How a file is framed is said in frames.h.
  */
-#include <assert.h>
-#include <stdbool.h>
-#include <stdio.h>
-#include <stdlib.h>
-#include <string.h>
-
-#include "hakkiyolu.h"
-
-enum status { CLOSES = 0, DIFFERS = 1, BAD_USAGE = 2, NO_ROOM = 3 };
+#include "frames.h"
 
 enum { SLOTS = 8 };
 
-/* A part of a line, by its first and last position, counted from 1 as the description counts them. */
-struct part {
-    size_t first, last;
-};
-
-static const struct part RECORD_FUNCTION = {1, 1}, RECORD_NUMBER = {2, 11}, RECORD_HOUSE = {12, 21},
-                         RECORD_STREET = {28, 87}, RECORD_SUFFIX = {88, 91}, RECORD_COMMUNITY = {94, 125},
-                         RECORD_STATE = {126, 127}, RECORD_CLASS = {220, 220}, RECORD_TYPE = {221, 221},
-                         RECORD_ESN = {226, 230}, RECORD_DATE = {251, 256}, RECORD_COMPANY = {261, 265},
-                         RECORD_SOURCE = {266, 266};
-
-static const struct part ROW_STREET = {3, 62}, ROW_SUFFIX = {63, 66}, ROW_LOW = {69, 78}, ROW_HIGH = {79, 88},
-                         ROW_COMMUNITY = {89, 120}, ROW_STATE = {121, 122}, ROW_PARITY = {123, 123},
-                         ROW_ESN = {124, 128}, ROW_FUNCTION = {199, 199};
-
-/* Header and trailer have the same parts but for the last: the header's cycle, the trailer's count. */
-static const struct part FRAME_MARK = {1, 5}, FRAME_DATE = {6, 11}, FRAME_NAME = {12, 61}, FRAME_CYCLE = {62, 67},
-                         FRAME_COUNT = {62, 70};
-
-/* What a header says. */
-struct heading {
-    const char *date, *name, *cycle;
-};
-
-/* A guide row, and the answer it should get. */
-struct row {
-    const char *function, *low, *high, *parity, *street, *suffix, *esn;
-    unsigned answer;
-};
+static const struct part RECORD_HOUSE = {12, 21}, RECORD_STREET = {28, 87}, RECORD_SUFFIX = {88, 91},
+                         RECORD_COMMUNITY = {94, 125}, RECORD_STATE = {126, 127}, RECORD_CLASS = {220, 220},
+                         RECORD_TYPE = {221, 221}, RECORD_ESN = {226, 230}, RECORD_DATE = {251, 256},
+                         RECORD_COMPANY = {261, 265}, RECORD_SOURCE = {266, 266};
 
 /* A data record, and the answer it should get. Deletes and unlocks need no address. */
 struct entry {
@@ -61,27 +24,18 @@ struct entry {
     unsigned answer;
 };
 
-/* Bytes to lend. They come from the heap in their exact length, so that a memory checker sees any step past the end. */
-struct lent {
-    uint8_t *bytes;
-    size_t length;
-};
-
-/* What a register office keeps: the two stores and the last cycle of each kind of file. */
-struct office {
-    struct lent reg, guide;
-    uint32_t last_data, last_guide;
-};
-
 static const char COMMUNITY[] = "MILLBROOK", STATE[] = "OR";
 
 static const struct heading GUIDE_HEADING = {"100126", "MILL COUNTY", "1"};
 
+static const struct street MAIN = {"", "MAIN", "ST", "", COMMUNITY, STATE},
+                           MILL = {"", "MILL", "RD", "", COMMUNITY, STATE};
+
 static const struct row ROWS[] = {
-    {"I", "1", "99", "B", "MAIN", "ST", "83", HAKKIYOLU_ANSWER_DONE},
-    {"I", "100", "198", "E", "MILL", "RD", "84", HAKKIYOLU_ANSWER_DONE},
-    {"I", "101", "199", "O", "MILL", "RD", "85", HAKKIYOLU_ANSWER_DONE},
-    {"I", "150", "150", "B", "MILL", "RD", "86", HAKKIYOLU_ANSWER_ROW_CLASHES},
+    {"I", "1", "99", "B", &MAIN, "83", HAKKIYOLU_ANSWER_DONE},
+    {"I", "100", "198", "E", &MILL, "84", HAKKIYOLU_ANSWER_DONE},
+    {"I", "101", "199", "O", &MILL, "85", HAKKIYOLU_ANSWER_DONE},
+    {"I", "150", "150", "B", &MILL, "86", HAKKIYOLU_ANSWER_ROW_CLASHES},
 };
 
 static const struct heading FIRST_HEADING = {"101026", "OLDCO TELEPHONE", "1"};
@@ -113,9 +67,19 @@ static const struct entry LATE[] = {
     {"C", "5035550103", "OLDCO", "101426", "42", "MAIN", "ST", "83", HAKKIYOLU_ANSWER_NUMBER_OPEN},
 };
 
+static const struct heading TAGGED_HEADING = {"101826", "OLDCO TELEPHONE", "4"};
+
+/*
+ * One more number of the first company, which comes tagged. Its labels stand in the order in which they are written,
+ * and its ESN is given, so that the register keeps the record as it was read: it comes back as this very text.
+ */
+static const char TEXT[] =
+    "DAT|FOCI|CPN5035550105|HNO44|STNMAIN|STSST|MCNMILLBROOK|STAOR|CLS1|TYS0|ESN83|CPD2026-10-16|CPFOLDCO\n";
+static const char TEXT_NUMBER[] = "5035550105";
+
 /* The dispatch centre has taken no file yet, so the load file is its cycle 1. */
 static const struct heading LOAD_HEADING = {"102026", "REGISTER OFFICE", "1"};
-enum { LOAD_CYCLE = 1, NONE_YET = 0 };
+enum { LOAD_CYCLE = 1 };
 
 /*
  * Days counted from 010100 before, which is day 10957 now. The day that was numbered 25568 is the first after 123169,
@@ -124,96 +88,7 @@ enum { LOAD_CYCLE = 1, NONE_YET = 0 };
  */
 enum { OLD_FIRST_DAY = 10957, OLD_LATE_DAY = 25568, LATE_SLOT = 2 };
 
-#define COUNT(list) (sizeof(list) / sizeof((list)[0]))
-
-/* ---- Framing a file -------------------------------------------------------------------------------------------- */
-
-/* So many zero bytes, which as slots are free ones. Nothing useful can be shown without memory, so it ends there. */
-static struct lent lend(size_t length)
-{
-    struct lent lent = {calloc(length, 1), length};
-    if (lent.bytes == NULL) {
-        perror("circle");
-        exit(NO_ROOM);
-    }
-    return lent;
-}
-
-/* Makes a line of spaces that ends in `*`. */
-static void clear(uint8_t *line, size_t length)
-{
-    memset(line, ' ', length);
-    line[length - 1] = '*';
-}
-
-/* Puts the text at the start of its part; what follows in the part stays blank. */
-static void put(uint8_t *line, struct part part, const char *text)
-{
-    const size_t length = strlen(text);
-    assert(length <= part.last - part.first + 1);
-    memcpy(line + part.first - 1, text, length);
-}
-
-/* Puts the number at the end of its part, its last digit first; zero is one `0`. */
-static void put_count(uint8_t *line, struct part part, size_t count)
-{
-    size_t at = part.last;
-    do {
-        assert(at >= part.first);
-        line[at - 1] = (uint8_t)('0' + count % 10);
-        count /= 10;
-        at--;
-    } while (count > 0);
-}
-
-static void write_header(uint8_t *line, const struct heading *heading)
-{
-    clear(line, HAKKIYOLU_HEADER_BYTES);
-    put(line, FRAME_MARK, "UHL");
-    put(line, FRAME_DATE, heading->date);
-    put(line, FRAME_NAME, heading->name);
-    put(line, FRAME_CYCLE, heading->cycle);
-}
-
-static void write_trailer(uint8_t *line, const struct heading *heading, size_t count)
-{
-    clear(line, HAKKIYOLU_TRAILER_BYTES);
-    put(line, FRAME_MARK, "UTL");
-    put(line, FRAME_DATE, heading->date);
-    put(line, FRAME_NAME, heading->name);
-    put_count(line, FRAME_COUNT, count);
-}
-
-/* Line i, from 0, of a file. */
-static uint8_t *line_at(const struct lent *file, size_t line_length, size_t i)
-{
-    return file->bytes + HAKKIYOLU_HEADER_BYTES + line_length * i;
-}
-
-/* A file with so many empty lines between its header and its trailer. */
-static struct lent frame(const struct heading *heading, size_t line_length, size_t count)
-{
-    struct lent file = lend(HAKKIYOLU_HEADER_BYTES + line_length * count + HAKKIYOLU_TRAILER_BYTES);
-    write_header(file.bytes, heading);
-    for (size_t i = 0; i < count; i++) {
-        clear(line_at(&file, line_length, i), line_length);
-    }
-    write_trailer(line_at(&file, line_length, count), heading, count);
-    return file;
-}
-
-static void write_row(uint8_t *line, const struct row *row)
-{
-    put(line, ROW_STREET, row->street);
-    put(line, ROW_SUFFIX, row->suffix);
-    put(line, ROW_LOW, row->low);
-    put(line, ROW_HIGH, row->high);
-    put(line, ROW_COMMUNITY, COMMUNITY);
-    put(line, ROW_STATE, STATE);
-    put(line, ROW_PARITY, row->parity);
-    put(line, ROW_ESN, row->esn);
-    put(line, ROW_FUNCTION, row->function);
-}
+/* ---- Taking data files ----------------------------------------------------------------------------------------- */
 
 static void write_record(uint8_t *line, const struct entry *entry)
 {
@@ -231,71 +106,6 @@ static void write_record(uint8_t *line, const struct entry *entry)
     put(line, RECORD_COMPANY, entry->company);
 }
 
-/* ---- Taking files ---------------------------------------------------------------------------------------------- */
-
-static const char *answer_words(unsigned answer)
-{
-    static const char *const WORDS[] = {
-        "dated after its file", "the number is present already", "the number is not present",
-        "the number is still held", "the number is open", "another company holds the number",
-        "dated before the entry", "no guide row covers the address", "not the ESN of the guide row",
-        "the register is full", "clashes with a present row", "the guide is full",
-        "no such row", "an entry still lies under the row",
-    };
-    if (answer == HAKKIYOLU_ANSWER_DONE) {
-        return "done";
-    }
-    const unsigned first = HAKKIYOLU_ANSWER_DATE_AHEAD;
-    return answer >= first && answer - first < COUNT(WORDS) ? WORDS[answer - first] : "an unknown answer";
-}
-
-/* Tells what became of a file; false if it was refused. */
-static bool tell_taken(const char *kind, const struct heading *heading, const struct hakkiyolu_taken *taken)
-{
-    if (taken->refusal != HAKKIYOLU_NOT_REFUSED) {
-        printf("%s of %s, cycle %s: refused (%u), record %u, position %u\n", kind, heading->name, heading->cycle,
-            (unsigned)taken->refusal, (unsigned)taken->place, (unsigned)taken->position);
-        return false;
-    }
-    printf("%s of %s, cycle %s: %u done, %u not done\n", kind, heading->name, heading->cycle,
-        (unsigned)taken->done, (unsigned)taken->undone);
-    return true;
-}
-
-/* Ends the line of one record or row with its answer; false if another was due. */
-static bool tell_answer(unsigned answer, unsigned due)
-{
-    if (answer == HAKKIYOLU_ANSWER_DONE) {
-        printf(": done");
-    } else {
-        printf(": turned away (%u), %s", answer, answer_words(answer));
-    }
-    printf(answer == due ? "\n" : " -- NOT AS EXPECTED\n");
-    return answer == due;
-}
-
-static bool take_rows(struct office *office, const struct heading *heading, const struct row *rows, size_t count)
-{
-    struct lent file = frame(heading, HAKKIYOLU_ROW_BYTES, count);
-    struct lent answers = lend(count);
-    for (size_t i = 0; i < count; i++) {
-        write_row(line_at(&file, HAKKIYOLU_ROW_BYTES, i), &rows[i]);
-    }
-    const struct hakkiyolu_taken taken = hakkiyolu_take_guide(office->reg.bytes, office->reg.length,
-        office->guide.bytes, office->guide.length, file.bytes, file.length, answers.bytes, answers.length,
-        office->last_guide);
-    office->last_guide = taken.last;
-    bool good = tell_taken("guide file", heading, &taken);
-    for (size_t i = 0; i < taken.records; i++) {
-        printf("  %s %s to %s %s %s, %s, ESN %s", rows[i].function, rows[i].low, rows[i].high, rows[i].street,
-            rows[i].suffix, rows[i].parity, rows[i].esn);
-        good = tell_answer(answers.bytes[i], rows[i].answer) && good;
-    }
-    free(answers.bytes);
-    free(file.bytes);
-    return good;
-}
-
 static bool take_entries(struct office *office, const struct heading *heading, const struct entry *entries,
     size_t count)
 {
@@ -304,14 +114,11 @@ static bool take_entries(struct office *office, const struct heading *heading, c
     for (size_t i = 0; i < count; i++) {
         write_record(line_at(&file, HAKKIYOLU_RECORD_BYTES, i), &entries[i]);
     }
-    const struct hakkiyolu_taken taken = hakkiyolu_take_data(office->reg.bytes, office->reg.length,
-        office->guide.bytes, office->guide.length, file.bytes, file.length, answers.bytes, answers.length,
-        office->last_data);
-    office->last_data = taken.last;
-    bool good = tell_taken("data file", heading, &taken);
+    const struct hakkiyolu_taken taken = take_file(office, heading, &file, &answers);
+    bool good = taken.refusal == HAKKIYOLU_NOT_REFUSED;
     for (size_t i = 0; i < taken.records; i++) {
         printf("  %s %s of %s", entries[i].function, entries[i].number, entries[i].company);
-        good = tell_answer(answers.bytes[i], entries[i].answer) && good;
+        good = tell_due(answers.bytes[i], entries[i].answer) && good;
     }
     free(answers.bytes);
     free(file.bytes);
@@ -320,31 +127,25 @@ static bool take_entries(struct office *office, const struct heading *heading, c
 
 /* ---- Looking --------------------------------------------------------------------------------------------------- */
 
-/* The length of a part without the spaces at its end. */
-static int text_length(const uint8_t *line, struct part part)
+/* The record of a number that is held, as it stands in its slot; NULL if the number is not held. */
+static const uint8_t *held_record(const struct lent *reg, const char *number)
 {
-    size_t last = part.last;
-    while (last >= part.first && line[last - 1] == ' ') {
-        last--;
+    const uint64_t seen = hakkiyolu_lookup(reg->bytes, reg->length, (const uint8_t *)number, strlen(number));
+    if (hakkiyolu_seen_state(seen) != HAKKIYOLU_STATE_HELD) {
+        printf("%s is not held\n", number);
+        return NULL;
     }
-    return (int)(last - part.first + 1);
-}
-
-static void print_part(const uint8_t *line, struct part part)
-{
-    printf(" %.*s", text_length(line, part), (const char *)line + part.first - 1);
+    const size_t slot_at = (size_t)hakkiyolu_seen_slot(seen) * HAKKIYOLU_REGISTER_SLOT_BYTES;
+    return reg->bytes + slot_at + HAKKIYOLU_SLOT_LINE_AT;
 }
 
 /* Shows where the dispatcher would send the crew; false if the number is not held by the company. */
 static bool show_street(const struct lent *reg, const char *number, const char *company)
 {
-    const uint64_t seen = hakkiyolu_lookup(reg->bytes, reg->length, (const uint8_t *)number, strlen(number));
-    if (hakkiyolu_seen_state(seen) != HAKKIYOLU_STATE_HELD) {
-        printf("%s is not held\n", number);
+    const uint8_t *line = held_record(reg, number);
+    if (line == NULL) {
         return false;
     }
-    const size_t slot_at = (size_t)hakkiyolu_seen_slot(seen) * HAKKIYOLU_REGISTER_SLOT_BYTES;
-    const uint8_t *line = reg->bytes + slot_at + HAKKIYOLU_SLOT_LINE_AT;
     printf("%s shows", number);
     print_part(line, RECORD_HOUSE);
     print_part(line, RECORD_STREET);
@@ -355,6 +156,95 @@ static bool show_street(const struct lent *reg, const char *number, const char *
     print_part(line, RECORD_COMPANY);
     printf("\n");
     return memcmp(line + RECORD_COMPANY.first - 1, company, strlen(company)) == 0;
+}
+
+/* ---- A tagged record ------------------------------------------------------------------------------------------- */
+
+/* Writes the record tagged: it must be refused by what is due, or else be the text that came. */
+static bool write_text(const uint8_t *record, uint32_t due)
+{
+    struct lent text = lend(HAKKIYOLU_TAGGED_BYTES);
+    const struct hakkiyolu_tagged written =
+        hakkiyolu_write_tagged(record, HAKKIYOLU_RECORD_BYTES, text.bytes, text.length);
+    const bool refused = written.refusal != HAKKIYOLU_NOT_REFUSED;
+    const bool same = written.bytes == strlen(TEXT) && memcmp(text.bytes, TEXT, written.bytes) == 0;
+    const bool good = written.refusal == due && (refused || same);
+    if (refused) {
+        printf("refused (%u)", (unsigned)written.refusal);
+    } else {
+        printf("%u bytes, %s", (unsigned)written.bytes, same ? "the text that came" : "another text");
+    }
+    printf(good ? "\n" : " -- NOT AS EXPECTED\n");
+    free(text.bytes);
+    return good;
+}
+
+/* Takes a data file of one record that came tagged, which must be done. */
+static bool take_record(struct office *office, const struct lent *file)
+{
+    const uint8_t *record = line_at(file, HAKKIYOLU_RECORD_BYTES, 0);
+    struct lent answers = lend(1);
+    const struct hakkiyolu_taken taken = take_file(office, &TAGGED_HEADING, file, &answers);
+    bool good = taken.records == 1;
+    if (good) {
+        printf(" ");
+        print_part(record, RECORD_FUNCTION);
+        print_part(record, RECORD_NUMBER);
+        printf(" of");
+        print_part(record, RECORD_COMPANY);
+        good = tell_due(answers.bytes[0], HAKKIYOLU_ANSWER_DONE);
+    }
+    free(answers.bytes);
+    return good;
+}
+
+/* Reads the text into its place in a data file of one record, and takes that. */
+static bool take_text(struct office *office)
+{
+    struct lent text = lend_copy(TEXT, strlen(TEXT));
+    struct lent file = frame(&TAGGED_HEADING, HAKKIYOLU_RECORD_BYTES, 1);
+    const struct hakkiyolu_tagged read = hakkiyolu_read_tagged(
+        text.bytes, text.length, line_at(&file, HAKKIYOLU_RECORD_BYTES, 0), HAKKIYOLU_RECORD_BYTES);
+    bool good = read.refusal == HAKKIYOLU_NOT_REFUSED;
+    if (good) {
+        printf("tagged record of %zu bytes: read\n", text.length);
+        good = take_record(office, &file);
+    } else {
+        printf("tagged record: refused (%u), position %u\n", (unsigned)read.refusal, (unsigned)read.position);
+    }
+    free(file.bytes);
+    free(text.bytes);
+    return good;
+}
+
+/* The text becomes an entry, and the entry the text again. */
+static bool text_and_back(struct office *office)
+{
+    const uint8_t *record = take_text(office) ? held_record(&office->reg, TEXT_NUMBER) : NULL;
+    if (record == NULL) {
+        return false;
+    }
+    printf("%s, written tagged: ", TEXT_NUMBER);
+    return write_text(record, HAKKIYOLU_NOT_REFUSED);
+}
+
+/*
+ * A record of the load file has no tagged form, for its Source is `C`. In a copy that is cleared, and the last entry,
+ * the one that came tagged, is its text again.
+ */
+static bool load_to_text(const struct lent *load, uint32_t entries)
+{
+    if (entries == 0) {
+        return false;
+    }
+    struct lent record = lend_copy(line_at(load, HAKKIYOLU_RECORD_BYTES, entries - 1), HAKKIYOLU_RECORD_BYTES);
+    printf("%s in the load file, written tagged: ", TEXT_NUMBER);
+    bool good = write_text(record.bytes, HAKKIYOLU_REFUSED_NO_TEXT);
+    put(record.bytes, RECORD_SOURCE, " ");
+    printf("%s with Source cleared, written tagged: ", TEXT_NUMBER);
+    good = write_text(record.bytes, HAKKIYOLU_NOT_REFUSED) && good;
+    free(record.bytes);
+    return good;
 }
 
 /* ---- Back again ------------------------------------------------------------------------------------------------ */
@@ -468,6 +358,7 @@ static bool load_and_back(const struct office *office)
         printf("load file written: %u entries, %u bytes\n", (unsigned)loaded.entries, (unsigned)loaded.bytes);
         const struct lent load = {out.bytes, loaded.bytes};
         good = take_back(office, &load, loaded.entries);
+        good = load_to_text(&load, loaded.entries) && good;
     } else {
         printf("load file refused (%u)\n", (unsigned)loaded.refusal);
     }
@@ -485,17 +376,10 @@ static void put_slot_day(uint8_t *slot, uint32_t day)
     slot[4] = (uint8_t)day;
 }
 
-static struct lent copy(const struct lent *lent)
-{
-    struct lent same = lend(lent->length);
-    memcpy(same.bytes, lent->bytes, lent->length);
-    return same;
-}
-
 /* The register as it was written before: the same but for the days of its used slots. */
 static struct lent as_before(const struct lent *reg)
 {
-    struct lent old = copy(reg);
+    struct lent old = lend_copy(reg->bytes, reg->length);
     for (size_t i = 0; i < SLOTS; i++) {
         uint8_t *slot = old.bytes + HAKKIYOLU_REGISTER_SLOT_BYTES * i;
         if (slot[0] != HAKKIYOLU_STATE_ABSENT) {
@@ -526,7 +410,7 @@ static bool convert_late(const struct lent *reg)
 {
     struct lent old = as_before(reg);
     put_slot_day(old.bytes + HAKKIYOLU_REGISTER_SLOT_BYTES * LATE_SLOT, OLD_LATE_DAY);
-    struct lent before = copy(&old);
+    struct lent before = lend_copy(old.bytes, old.length);
     const struct hakkiyolu_converted converted = hakkiyolu_convert_register(old.bytes, old.length);
     const bool kept = memcmp(old.bytes, before.bytes, before.length) == 0;
     const bool good = converted.refusal == HAKKIYOLU_REFUSED_DAY && converted.slot == LATE_SLOT && kept;
@@ -549,26 +433,11 @@ static bool run_circle(struct office *office)
     good = show_street(&office->reg, "5035550100", "NEWCO") && good;
     good = take_entries(office, &LATE_HEADING, LATE, COUNT(LATE)) && good;
     good = show_street(&office->reg, "5035550100", "NEWCO") && good;
+    good = text_and_back(office) && good;
     good = load_and_back(office) && good;
     good = convert_old(&office->reg) && good;
     good = convert_late(&office->reg) && good;
     printf(good ? "the circle closes\n" : "THE CIRCLE DOES NOT CLOSE\n");
-    return good;
-}
-
-/* Writes the register to a file; false, with the reason on the standard error, if that fails. */
-static bool write_register(const struct lent *reg, const char *path)
-{
-    FILE *file = fopen(path, "wb");
-    if (file == NULL) {
-        perror(path);
-        return false;
-    }
-    bool good = fwrite(reg->bytes, 1, reg->length, file) == reg->length;
-    good = fclose(file) == 0 && good; /* buffered bytes may fail only here */
-    if (!good) {
-        perror(path);
-    }
     return good;
 }
 
@@ -579,16 +448,11 @@ int main(int argc, char **argv)
     }
     struct office office = {
         lend(SLOTS * HAKKIYOLU_REGISTER_SLOT_BYTES), lend(SLOTS * HAKKIYOLU_GUIDE_SLOT_BYTES), NONE_YET, NONE_YET};
-    enum status status = run_circle(&office) ? CLOSES : DIFFERS;
+    enum status status = run_circle(&office) ? GOOD : NOT_GOOD;
     if (argc == 2 && !write_register(&office.reg, argv[1])) {
         status = NO_ROOM;
     }
     free(office.guide.bytes);
     free(office.reg.bytes);
-    /* A print that failed has marked the stream, so asking once at the end is enough. */
-    if (fflush(stdout) != 0 || ferror(stdout)) {
-        (void)fputs("circle: the standard output cannot be written\n", stderr); /* the status tells it in any case */
-        status = NO_ROOM;
-    }
-    return (int)status;
+    return (int)ended("circle", status);
 }

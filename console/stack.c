@@ -4,8 +4,10 @@
  * A thread runs the call on a stack of our own that was painted before; the lowest word that changed tells how deep it
  * went, and the same with a call of nothing is subtracted. The stores are sound and not empty, and the files have lines
  * that are done and lines that are turned away, or a fault in the last byte of the last line; a register is converted,
- * or refused for its last slot: a call goes as deep as it can. The caller's arguments and result are counted; what is
- * set aside below the lowest word written is not seen.
+ * or refused for its last slot; a tagged text has every label, as long as they can be, and is read, or refused for the
+ * last field that has a label; its record is written, or refused for the last label that can be without a form: a call
+ * goes as deep as it can. The caller's arguments and result are counted; what is set aside below the lowest word that
+ * was written is not seen.
  *
  * Prints `stack NAME BYTES` for each call. Exit status: 0 all are within BOUND and answered as is due, 1 one is not,
  * 3 no thread can be run or the output cannot be written.
@@ -31,9 +33,20 @@ enum { OLD_FIRST_DAY = 10957, OLD_LAST_DAY = 25567, LAST_DAY = 36524 };
 #define RECORD "%s%-10s%-16s%-66s%-32s%-94s%-31s%-10s%-251s*"
 #define RECORD_OF(code, number, date) code, number, "104", "MILL", "MILLBROOK", "OR", "10", date, "OLDCO"
 
+/* A tagged text with every field full. A width is that of a value of zeros; the last byte of TAR is given. */
+#define TEXT \
+    "DAT|FOCI|CPN5035550100|HNO12345678|HNSHALF|PRDNW|STN%060d|STSROAD|PODSE|MCN%032d|STAOR|LOC%060d|NAM%032d|CLS1" \
+    "|TYS0|EXCSALM|ESN00084|MTN5035550199|ORD%010d|CPD1999-12-31|COI0047|CPFOLDCO|ZIP97301-1234|CUSABC|CMT%030d" \
+    "|TAR%05d%c|GU1%011d|CEL%06d|SEC2\n"
+#define TEXT_OF(tar_end) 0, 0, 0, 0, 0, 0, 0, tar_end, 0, 0
+
+/* The longest text has two bytes less than are always enough, as House Number has at most 8 digits in its 10 bytes. */
+enum { TEXT_BYTES = HAKKIYOLU_TAGGED_BYTES - 2, TAR_AT = 350, ZIP_END_AT = 275 };
+
 /*
- * A call on a file, a number or a register, and what is due of it: lines done or the fault's position; entries; slots
- * looked at; the day in the last slot, or the refusal and the slot added up.
+ * A call on a file, a number, a register, a text or a record, and what is due of it: lines done or the fault's
+ * position; entries; slots looked at; the day in the last slot, or the refusal and the slot added up; bytes written, or
+ * the refusal and the position added up.
  */
 struct call {
     const char *name;
@@ -47,6 +60,8 @@ static _Alignas(4096) uint64_t stack[WORDS];
 static uint8_t reg[SLOTS * HAKKIYOLU_REGISTER_SLOT_BYTES], guide[SLOTS * HAKKIYOLU_GUIDE_SLOT_BYTES], answers[RECORDS],
     load[HAKKIYOLU_DATA_FILE_BYTES(SLOTS)], old_reg[sizeof reg], late_reg[sizeof reg];
 static uint8_t *const last_slot = reg + sizeof reg - HAKKIYOLU_REGISTER_SLOT_BYTES;
+static uint8_t rec[HAKKIYOLU_RECORD_BYTES], bad_rec[sizeof rec], written[HAKKIYOLU_TAGGED_BYTES];
+static char text[TEXT_BYTES + 1], bad_text[sizeof text];
 static char rows[HAKKIYOLU_GUIDE_FILE_BYTES(ROWS) + 1], bad_rows[sizeof rows],
     records[HAKKIYOLU_DATA_FILE_BYTES(RECORDS) + 1], first_records[sizeof records], bad_records[sizeof records];
 static uint32_t answered;
@@ -146,6 +161,31 @@ static uint32_t convert_register(const void *old)
     return converted.refusal == HAKKIYOLU_NOT_REFUSED ? slot_day(last_slot) : converted.refusal + converted.slot;
 }
 
+/* TAR is the last field that has a label, and Zip+4 the last that must have digits for its label. */
+static void write_texts(void)
+{
+    snprintf(text, sizeof text, TEXT, TEXT_OF('A'));
+    snprintf(bad_text, sizeof bad_text, TEXT, TEXT_OF('\x7f'));
+    hakkiyolu_read_tagged((const uint8_t *)text, TEXT_BYTES, bad_rec, sizeof bad_rec);
+    memcpy(rec, bad_rec, sizeof rec);
+    bad_rec[ZIP_END_AT - 1] = ' ';
+}
+
+static uint32_t tagged_due(struct hakkiyolu_tagged tagged)
+{
+    return tagged.refusal == HAKKIYOLU_NOT_REFUSED ? tagged.bytes : tagged.refusal + tagged.position;
+}
+
+static uint32_t read_tagged(const void *given)
+{
+    return tagged_due(hakkiyolu_read_tagged(given, TEXT_BYTES, rec, sizeof rec));
+}
+
+static uint32_t write_tagged(const void *given)
+{
+    return tagged_due(hakkiyolu_write_tagged(given, HAKKIYOLU_RECORD_BYTES, written, sizeof written));
+}
+
 static uint32_t nothing(const void *given)
 {
     return given != NULL;
@@ -189,11 +229,16 @@ int main(void)
         {"take_guide", take_guide, rows, 2}, {"take_guide_refused", take_guide, bad_rows, HAKKIYOLU_ROW_BYTES},
         {"write_load", write_load, rows, 2}, {"convert_register", convert_register, old_reg, LAST_DAY},
         {"convert_register_refused", convert_register, late_reg, HAKKIYOLU_REFUSED_DAY + SLOTS - 1},
+        {"read_tagged", read_tagged, text, HAKKIYOLU_RECORD_BYTES},
+        {"read_tagged_refused", read_tagged, bad_text, HAKKIYOLU_REFUSED_RECORD + TAR_AT},
+        {"write_tagged", write_tagged, rec, TEXT_BYTES},
+        {"write_tagged_refused", write_tagged, bad_rec, HAKKIYOLU_REFUSED_NO_TEXT},
         {"lookup_hit", lookup, "5035550101", 2}, {"lookup_miss", lookup, "5035550199", SLOTS},
     };
     int status = 0;
     write_files();
     write_registers();
+    write_texts();
     const size_t before = depth(&none);
     for (size_t i = 0; i < sizeof calls / sizeof calls[0]; i++) {
         const size_t bytes = depth(&calls[i]) - before;

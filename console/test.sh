@@ -1,5 +1,6 @@
 #!/usr/bin/env bash
-# Builds the console, the circle and the measure of the stack against the static libraries and runs them, a line a check.
+# Builds the console, the circle, the delivery and the measure of the stack against the static libraries and runs them,
+# a line a check.
 #
 #   console/test.sh [FOLDER]    FOLDER has liblookup.a and libboundary.a; it may also be named by HAKKIYOLU_LIBS.
 #                               Otherwise it is target/staticlib under the repository's root.
@@ -82,7 +83,8 @@ $(cat valgrind.log)"
 
 # ---- The header alone --------------------------------------------------------------------------------------------
 
-# Included twice, for the guard. Every call once with nothing lent: NULL with length 0 is allowed, and refused by 1.
+# Included twice, for the guard. Every call once with nothing lent: NULL with length 0 is allowed, and refused by 1, as
+# a tagged text by 33, as a record by 9.
 cat >face.c <<'END'
 #include "hakkiyolu.h"
 #include "hakkiyolu.h"
@@ -94,13 +96,17 @@ int main(void)
     const struct hakkiyolu_taken guide = hakkiyolu_take_guide(NULL, 0, NULL, 0, NULL, 0, NULL, 0, 8);
     const struct hakkiyolu_loaded loaded = hakkiyolu_write_load(NULL, 0, NULL, 0, NULL, 0, 1, NULL, 0);
     const struct hakkiyolu_converted converted = hakkiyolu_convert_register(NULL, 0);
+    const struct hakkiyolu_tagged read = hakkiyolu_read_tagged(NULL, 0, NULL, 0);
+    const struct hakkiyolu_tagged written = hakkiyolu_write_tagged(NULL, 0, NULL, 0);
     const int refused = hakkiyolu_seen_refusal(seen) == HAKKIYOLU_REFUSED_REGISTER
         && data.refusal == HAKKIYOLU_REFUSED_REGISTER && guide.refusal == HAKKIYOLU_REFUSED_REGISTER
         && loaded.refusal == HAKKIYOLU_REFUSED_REGISTER && converted.refusal == HAKKIYOLU_REFUSED_REGISTER;
     const int rest = hakkiyolu_seen_looked(seen) == 0 && hakkiyolu_seen_slot(seen) == 0
         && hakkiyolu_seen_state(seen) == HAKKIYOLU_STATE_ABSENT && data.last == 7 && guide.last == 8
         && data.records == 0 && guide.records == 0 && loaded.bytes == 0 && loaded.entries == 0 && converted.slot == 0;
-    return refused && rest ? 0 : 1;
+    const int tagged = read.refusal == HAKKIYOLU_REFUSED_TEXT && read.position == 0 && read.bytes == 0
+        && written.refusal == HAKKIYOLU_REFUSED_RECORD && written.position == 0 && written.bytes == 0;
+    return refused && rest && tagged ? 0 : 1;
 }
 END
 cp face.c face.cpp
@@ -126,9 +132,9 @@ done
 quiet "libraries link in the other order" gcc -std=c11 "${warnings[@]}" face.c "$boundary" "$lookup" -o face
 runs "nothing lent is refused, other order" 0 "" "" ./face
 
-# ---- The two programs --------------------------------------------------------------------------------------------
+# ---- The programs ------------------------------------------------------------------------------------------------
 
-# builds NAME COMPILER OPTION...: writes console.NAME and circle.NAME
+# builds NAME COMPILER OPTION...: writes console.NAME, circle.NAME and delivery.NAME
 builds() {
     local name=$1 compiler=$2
     shift 2
@@ -136,6 +142,8 @@ builds() {
         -o "console.$name"
     quiet "circle builds, $name" "$compiler" -std=c11 "$@" "${warnings[@]}" "$root/console/circle.c" "$boundary" \
         "$lookup" -o "circle.$name"
+    quiet "delivery builds, $name" "$compiler" -std=c11 "$@" "${warnings[@]}" "$root/console/delivery.c" "$boundary" \
+        -o "delivery.$name"
 }
 
 builds plain gcc -O2
@@ -163,12 +171,19 @@ data file of OLDCO TELEPHONE, cycle 3: 0 done, 2 not done
   C 5035550100 of OLDCO: turned away (16), another company holds the number
   C 5035550103 of OLDCO: turned away (15), the number is open
 5035550100 shows 109 MILL RD, ESN 85, of NEWCO
-load file written: 3 entries, 1936 bytes
-load file of REGISTER OFFICE, cycle 1: 3 done, 0 not done
+tagged record of 101 bytes: read
+data file of OLDCO TELEPHONE, cycle 4: 1 done, 0 not done
+  I 5035550105 of OLDCO: done
+5035550105, written tagged: 101 bytes, the text that came
+load file written: 4 entries, 2448 bytes
+load file of REGISTER OFFICE, cycle 1: 4 done, 0 not done
   slot 0, 5035550100: came back to slot 0
   slot 1, 5035550101: came back to slot 1
   slot 3, 5035550103: came back to slot 2
-  the other 5 slots: free
+  slot 4, 5035550105: came back to slot 3
+  the other 4 slots: free
+5035550105 in the load file, written tagged: refused (37)
+5035550105 with Source cleared, written tagged: 101 bytes, the text that came
 converted an old register of 8 slots: same as today's
 a day after 2069 in slot 2: refused (28), nothing changed
 the circle closes"
@@ -176,6 +191,41 @@ the circle closes"
 no_register='refused (1): not 1 to 4096 whole slots of 520 bytes'
 no_number='refused (10): not ten digits'
 no_usage='console: bad usage: give a register and a number (console --help tells more)'
+
+# The sample delivery; its good lines alone; one with every label at fault; one of more records than a file may have,
+# all the same insert, which is done once and turned away afterwards; and one without a line.
+sample=$root/console/delivery.txt
+sed -n '1,2p;10p' "$sample" >good.txt
+"$root/console/labels.sh" >labels.txt
+awk 'NR == 2 { for (i = 0; i < 10001; i++) print }' "$sample" >many.txt
+: >none.txt
+
+sample_says=$(cat "$root/console/delivery.expected")
+labels_say=$(cat "$root/console/labels.expected")
+guide_says=$(head -n 4 "$root/console/delivery.expected")
+good_says="$guide_says
+line 1: read, I 5035550100
+line 2: read, I 5035550101
+line 3: read, U 5035550101
+data file of ALPHA TELEPHONE, cycle 1: 3 done, 0 not done
+line 1: done
+line 2: done
+line 3: done"
+present='turned away (12), the number is present already'
+many_say="$guide_says
+$(seq -f 'line %.0f: read, I 5035550101' 9999)
+data file of ALPHA TELEPHONE, cycle 1: 1 done, 9998 not done
+line 1: done
+$(seq -f "line %.0f: $present" 2 9999)
+line 10000: read, I 5035550101
+line 10001: read, I 5035550101
+data file of ALPHA TELEPHONE, cycle 2: 0 done, 2 not done
+line 10000: $present
+line 10001: $present"
+
+# What is due of each label is said apart from what the example prints: up to what to do, the two must be the same.
+told=$(sed -n '/^data file/q; s/^\(line [^;]*\).*/\1/p' "$root/console/labels.expected")
+runs "every label is told as is due" 0 "$told" "" "$root/console/labels.sh" due
 
 # zeros FILE BYTES: a file of zero bytes; whole slots of them are free slots
 zeros() {
@@ -191,17 +241,36 @@ zeros byte_over_most $((4096 * 520 + 1))
 mkdir folder
 many=({5035551000..5035551999}) # more than a stream buffers
 
-# programs NAME BUILD [BEFORE...]: runs both programs of a build, with BEFORE (valgrind) in front of them
+# programs NAME BUILD [BEFORE...]: runs the programs of a build, with BEFORE (valgrind) in front of them
 programs() {
     local name=$1 build=$2
     shift 2
-    local console=("$@" "./console.$build") circle=("$@" "./circle.$build")
+    local console=("$@" "./console.$build") circle=("$@" "./circle.$build") delivery=("$@" "./delivery.$build")
 
     runs "circle closes, $name" 0 "$circle_says" "" "${circle[@]}"
     rm -f register
     runs "circle writes its register, $name" 0 "$circle_says" "" "${circle[@]}" register
     runs "circle: a file it can't write, $name" 3 "$circle_says" "folder: Is a directory" "${circle[@]}" folder
     runs "circle: too many arguments, $name" 2 "" "Usage: circle [REGISTER]" "${circle[@]}" register more
+
+    runs "delivery: the sample, $name" 1 "$sample_says" "" "${delivery[@]}" "$sample"
+    runs "delivery: every label at fault, $name" 1 "$labels_say" "" "${delivery[@]}" labels.txt
+    runs "delivery: more than a file of records, $name" 1 "$many_say" "" "${delivery[@]}" many.txt
+    runs "delivery: no line, $name" 0 "$guide_says" "" "${delivery[@]}" none.txt
+    rm -f delivered
+    runs "delivery: all lines done, and the register written, $name" 0 "$good_says" "" \
+        "${delivery[@]}" good.txt delivered
+    runs "delivery: what was delivered, $name" 0 "5035550100: held, slot 0, 1 slot looked at
+5035550101: open, slot 1, 2 slots looked at
+5035550102: absent, no slot, 4096 slots looked at" "" "${console[@]}" delivered 5035550100 5035550101 5035550102
+    runs "delivery: a file it can't write, $name" 3 "$good_says" "folder: Is a directory" \
+        "${delivery[@]}" good.txt folder
+    runs "delivery: a missing file, $name" 3 "" "missing: No such file or directory" "${delivery[@]}" missing unwritten
+    runs "delivery: a folder, $name" 3 "$guide_says" "folder: Is a directory" "${delivery[@]}" folder unwritten
+    runs "delivery: no register where there is no delivery, $name" 1 "" "" test -e unwritten
+    runs "delivery: no arguments, $name" 2 "" "Usage: delivery DELIVERY [REGISTER]" "${delivery[@]}"
+    runs "delivery: too many arguments, $name" 2 "" "Usage: delivery DELIVERY [REGISTER]" \
+        "${delivery[@]}" good.txt delivered more
 
     runs "held, $name" 0 "5035550100: held, slot 0, 1 slot looked at" "" "${console[@]}" register 5035550100
     runs "resting, $name" 0 "5035550102: resting, slot 2, 3 slots looked at" "" "${console[@]}" register 5035550102
@@ -243,6 +312,8 @@ programs() {
             full "${console[@]}" register "${many[@]}"
         runs "circle: output that can't be written, $name" 3 "" "circle: the standard output cannot be written" \
             full "${circle[@]}"
+        runs "delivery: output that can't be written, $name" 3 "" "delivery: the standard output cannot be written" \
+            full "${delivery[@]}" good.txt
     fi
 }
 
@@ -275,7 +346,8 @@ quiet "stack builds" gcc -std=c11 -O2 -pthread "${warnings[@]}" "$root/console/s
 said=$(./stack 2>&1)
 status=$?
 for call in take_data take_data_refused take_guide take_guide_refused write_load convert_register \
-    convert_register_refused lookup_hit lookup_miss; do
+    convert_register_refused read_tagged read_tagged_refused write_tagged write_tagged_refused lookup_hit \
+    lookup_miss; do
     if line=$(grep -Ex "stack $call [0-9]+" <<<"$said"); then
         ok "$line"
     else

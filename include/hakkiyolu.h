@@ -4,14 +4,15 @@
  * Telephone companies send data files: who has which number, and where. Counties send guide files: street ranges with
  * their emergency zone (ESN). A take applies such a file to a register and a guide; a load file carries the register to
  * a dispatch centre; a lookup finds a number for the dispatcher's screen. A register that was written when days counted
- * from 010100 is converted once.
+ * from 010100 is converted once. A tagged data record (Version 3.1) is read into a record of a data file, and written
+ * from one.
  *
  * The register and the guide are plain bytes that the caller owns and lends to each call. Every call answers every
  * input, however damaged: it has no error besides the numbers below.
  *
- * Libraries: hakkiyolu_lookup is in liblookup.a; hakkiyolu_take_data, hakkiyolu_take_guide, hakkiyolu_write_load and
- * hakkiyolu_convert_register are in libboundary.a. Neither needs the other, and both may be linked into one program in
- * either order.
+ * Libraries: hakkiyolu_lookup is in liblookup.a; hakkiyolu_take_data, hakkiyolu_take_guide, hakkiyolu_write_load,
+ * hakkiyolu_convert_register, hakkiyolu_read_tagged and hakkiyolu_write_tagged are in libboundary.a. Neither needs the
+ * other, and both may be linked into one program in either order.
  *
  * RULES FOR BUFFERS, the same for every call. Each buffer is a pointer and, right behind it, its length in bytes.
  *
@@ -76,6 +77,9 @@ extern "C" {
 /* Cycles count from 1 to this and then begin again with 1. */
 #define HAKKIYOLU_CYCLE_MOST 999999u
 
+/* So many bytes are enough for the tagged text of every record. A text to be read may have any length. */
+#define HAKKIYOLU_TAGGED_BYTES 452u
+
 /* ---- States, refusals, answers -------------------------------------------------------------------------------- */
 
 /* The state of a number, as a lookup tells it and as byte 0 of its slot holds it. */
@@ -89,7 +93,8 @@ enum hakkiyolu_state {
 /*
  * Why a call was refused. The refusals of a take are tried in the order of their numbers, and the first that applies
  * is told. Those of a load file are tried in the order 1, 26, 25; those of a conversion in the order 1, 28; those of a
- * lookup in the order 1, 10.
+ * lookup in the order 1, 10; those of reading a tagged text in the order 33, 34, 35, 36, 9, 25, each over the whole
+ * text; those of writing one in the order 9, 37, 25.
  */
 enum hakkiyolu_refusal {
     HAKKIYOLU_NOT_REFUSED = 0,          /* the call was done */
@@ -102,10 +107,16 @@ enum hakkiyolu_refusal {
     HAKKIYOLU_REFUSED_TRAILER = 7,      /* the trailer is wrong, or its date or name is not the header's */
     HAKKIYOLU_REFUSED_COUNT = 8,        /* the trailer's record count is not the number of records in the file */
     HAKKIYOLU_REFUSED_RECORD = 9,       /* a record or row breaks a field rule: `place` and `position` tell where */
+                                        /* (reading or writing a tagged text is of one record: `position` alone) */
     HAKKIYOLU_REFUSED_NUMBER = 10,      /* the number looked up is not ten digits */
-    HAKKIYOLU_REFUSED_OUTPUT = 25,      /* the output is too short for the load file */
+    HAKKIYOLU_REFUSED_OUTPUT = 25,      /* the output is too short for the load file, the record or the tagged text */
     HAKKIYOLU_REFUSED_LOAD_HEADER = 26, /* date, name or cycle wrong for a header, or the date before an entry's day */
-    HAKKIYOLU_REFUSED_DAY = 28          /* a conversion: a stored day has no reading now, `slot` tells which */
+    HAKKIYOLU_REFUSED_DAY = 28,         /* a conversion: a stored day has no reading now, `slot` tells which */
+    HAKKIYOLU_REFUSED_TEXT = 33,        /* a tagged text has no `DAT` at its start, or no newline at its end */
+    HAKKIYOLU_REFUSED_LABEL = 34,       /* a label that is not taken, or is cut short */
+    HAKKIYOLU_REFUSED_LABEL_TWICE = 35, /* a label that stands twice */
+    HAKKIYOLU_REFUSED_VALUE = 36,       /* a value that is too long, or has no Version 2 form */
+    HAKKIYOLU_REFUSED_NO_TEXT = 37      /* a record to be written has no tagged form */
 };
 
 /*
@@ -154,6 +165,13 @@ struct hakkiyolu_loaded {
 struct hakkiyolu_converted {
     uint32_t refusal; /* 0, or the refusal 1 or 28 (enum hakkiyolu_refusal) */
     uint32_t slot;    /* refusal 28: the lowest slot whose day was after 2069, from 0; otherwise 0 */
+};
+
+/* What reading or writing a tagged text returns. If it was refused, `bytes` is 0. */
+struct hakkiyolu_tagged {
+    uint32_t refusal;  /* 0, or the refusal 9, 25 or 33 to 37 (enum hakkiyolu_refusal) */
+    uint32_t position; /* refusal 9: the first byte of the record's first bad field, from 1; otherwise 0 */
+    uint32_t bytes;    /* how many bytes were written at the start of the output: reading writes 512, or none */
 };
 
 /* ---- Calls ---------------------------------------------------------------------------------------------------- */
@@ -238,6 +256,93 @@ struct hakkiyolu_loaded hakkiyolu_write_load(
 struct hakkiyolu_converted hakkiyolu_convert_register(uint8_t *reg, size_t reg_length);
 
 /*
+ * Reads one tagged data record (Version 3.1) into a record of 512 bytes that keeps every field rule. Framed between a
+ * header and a trailer, such records are a data file; there is no tagged file, header or trailer.
+ *
+ *   text, text_length  the tagged text, read: `DAT`, then for each field `|`, its label and its value, and one newline
+ *                      byte, 0a hex. The labels may stand in any order
+ *   rec, rec_length    the record, written: 512 bytes or more; bytes past the record stay as they are, and if refused
+ *                      all do
+ *
+ * Taken are these labels, here in the order in which they are written. Where no form is said, the value is the bytes of
+ * the field: spaces at its end may be left out, and count where they stand. The lengths are those of the 512 bytes: the
+ * Version 3.1 format itself has more for COI, GU1 and SEC.
+ *
+ *   label  field                        bytes, at most   form of the value
+ *   FOC    Function                      1
+ *   CPN    NPA and Calling Number       10               exactly ten digits
+ *   HNO    House Number                 10
+ *   HNS    House Suffix                  4
+ *   PRD    Prefix Directional            2
+ *   STN    Street Name                  60
+ *   STS    Street Suffix                 4
+ *   POD    Post Directional              2
+ *   MCN    Community                    32
+ *   STA    State                         2
+ *   LOC    Location                     60
+ *   NAM    Customer Name                32
+ *   CLS    Class                         1
+ *   TYS    Type                          1
+ *   EXC    Exchange                      4
+ *   ESN    ESN                           5
+ *   MTN    Main NPA and Main Number     10               exactly ten digits
+ *   ORD    Order                        10
+ *   CPD    Date                         10               CCYY-MM-DD, of the years 1970 to 2069
+ *   COI    County                        4
+ *   CPF    Company ID                    5
+ *   ZIP    Zip and Zip+4                10               NNNNN or NNNNN-NNNN, all digits
+ *   CUS    Customer Code                 3
+ *   CMT    Comments                     30
+ *   TAR    TAR                           6
+ *   GU1    General Use                  11
+ *   CEL    Cell                          6
+ *   SEC    Sector                        1
+ *
+ * A label that does not stand in the text leaves its field blank, and so does one with an empty value where no form is
+ * said. Source, X, Y, Z and Reserved have no label and are blank. The refusals, in this order, each over the whole
+ * text:
+ *
+ *   33  what stands before the first `|` (before the newline, if there is none) is not `DAT`, or the last byte is not a
+ *       newline
+ *   34  a label is none of these (capitals only), or is cut short: fewer than three bytes stand between its `|` and the
+ *       next `|` or the newline, so also where a `|` is the last byte before the newline
+ *   35  a label stands twice, with the same value or another
+ *   36  a value is longer than said above, or has not the form said there (nor has an empty one of CPN, MTN, CPD, ZIP)
+ *   9   the record so read breaks a field rule, and `position` tells its first bad field, as in a data file: because
+ *       a needed label does not stand in the text (CPN: at 2), a day does not exist (2001-02-29: at 251), a byte of a
+ *       value is not 20 to 7e hex (a newline inside it), and so on
+ *   25  the output is shorter than 512 bytes
+ *
+ * What was read has a tagged form, which hakkiyolu_write_tagged writes.
+ */
+struct hakkiyolu_tagged hakkiyolu_read_tagged(
+    const uint8_t *text, size_t text_length,
+    uint8_t *rec, size_t rec_length);
+
+/*
+ * Writes the one tagged form of a record: `DAT`, then for each label whose field is not blank `|`, the label and the
+ * value without spaces at its end, in the order of the table above, then one newline. Read again, it gives the same
+ * record. HAKKIYOLU_TAGGED_BYTES of output are always enough.
+ *
+ *   rec, rec_length    the record, read: 512 bytes
+ *   text, text_length  the tagged text, written; bytes past it stay as they are, and if refused all do
+ *
+ * The refusals, in this order:
+ *
+ *   9   the record breaks a field rule, `position` tells where; or it has not 512 bytes, and `position` is 0
+ *   37  the record has no tagged form, for one of these reasons:
+ *         - a value contains `|`;
+ *         - a field without a label is not blank: Source, X, Y, Z or Reserved (the `*` apart). So A RECORD OF A LOAD
+ *           FILE IS ALWAYS REFUSED, as its Source is `C`: clear Source, byte 266, to a space in a copy first;
+ *         - Zip with Zip+4 is not blank, five digits, or five and four;
+ *         - the main number, Main NPA with Main Number, is not blank or ten digits
+ *   25  the output is shorter than the text
+ */
+struct hakkiyolu_tagged hakkiyolu_write_tagged(
+    const uint8_t *rec, size_t rec_length,
+    uint8_t *text, size_t text_length);
+
+/*
  * Looks a number up: the lowest used slot that has it. Only the register's length and the number's form are tested, so
  * that a damaged slot hides no other; a slot whose state is above 3 is passed over.
  *
@@ -306,6 +411,10 @@ HAKKIYOLU_ASSERT(offsetof(struct hakkiyolu_loaded, entries) == 8, "entries is at
 HAKKIYOLU_ASSERT(sizeof(struct hakkiyolu_converted) == 8, "hakkiyolu_converted has 8 bytes");
 HAKKIYOLU_ASSERT(offsetof(struct hakkiyolu_converted, refusal) == 0, "refusal is at 0");
 HAKKIYOLU_ASSERT(offsetof(struct hakkiyolu_converted, slot) == 4, "slot is at 4");
+HAKKIYOLU_ASSERT(sizeof(struct hakkiyolu_tagged) == 12, "hakkiyolu_tagged has 12 bytes");
+HAKKIYOLU_ASSERT(offsetof(struct hakkiyolu_tagged, refusal) == 0, "refusal is at 0");
+HAKKIYOLU_ASSERT(offsetof(struct hakkiyolu_tagged, position) == 4, "position is at 4");
+HAKKIYOLU_ASSERT(offsetof(struct hakkiyolu_tagged, bytes) == 8, "bytes is at 8");
 #undef HAKKIYOLU_ASSERT
 #endif
 

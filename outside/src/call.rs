@@ -1,9 +1,10 @@
 //! A call as data: what is lent, what comes back, and how two outcomes differ.
 
 use crate::lent::Lent;
+use crate::model::{Tagged, Taken};
 use crate::subject::Subject;
 
-/// One of the five functions.
+/// One of the seven functions.
 #[derive(Clone, Copy, Debug, PartialEq, Eq)]
 pub enum Op {
     /// Takes a data file.
@@ -16,13 +17,27 @@ pub enum Op {
     WriteLoad,
     /// Converts a register written by the former reading.
     ConvertRegister,
+    /// Reads a tagged text into a record.
+    ReadTagged,
+    /// Writes a record as a tagged text.
+    WriteTagged,
 }
 
 impl Op {
     /// How many there are.
-    pub const COUNT: usize = 5;
+    pub const COUNT: usize = 7;
     /// All of them.
     pub const ALL: [Op; Op::COUNT] = [
+        Op::TakeData,
+        Op::TakeGuide,
+        Op::Lookup,
+        Op::WriteLoad,
+        Op::ConvertRegister,
+        Op::ReadTagged,
+        Op::WriteTagged,
+    ];
+    /// Those of files and stores; the others are of tagged texts.
+    pub const OF_FILES: [Op; 5] = [
         Op::TakeData,
         Op::TakeGuide,
         Op::Lookup,
@@ -38,6 +53,8 @@ impl Op {
             Op::Lookup => "lookup",
             Op::WriteLoad => "write_load",
             Op::ConvertRegister => "convert_register",
+            Op::ReadTagged => "read_tagged",
+            Op::WriteTagged => "write_tagged",
         }
     }
 
@@ -45,7 +62,7 @@ impl Op {
     pub fn given(self) -> &'static str {
         match self {
             Op::TakeData | Op::TakeGuide => "last",
-            Op::Lookup | Op::ConvertRegister => "",
+            Op::Lookup | Op::ConvertRegister | Op::ReadTagged | Op::WriteTagged => "",
             Op::WriteLoad => "cycle",
         }
     }
@@ -57,6 +74,8 @@ impl Op {
             Op::Lookup => &["register", "number"],
             Op::WriteLoad => &["register", "date", "name", "out"],
             Op::ConvertRegister => &["register"],
+            Op::ReadTagged => &["text", "out"],
+            Op::WriteTagged => &["record", "out"],
         }
     }
 
@@ -69,6 +88,7 @@ impl Op {
             Op::Lookup => &["refusal", "state", "slot", "looked"],
             Op::WriteLoad => &["refusal", "bytes", "entries"],
             Op::ConvertRegister => &["refusal", "slot"],
+            Op::ReadTagged | Op::WriteTagged => &["refusal", "position", "bytes"],
         }
     }
 }
@@ -109,6 +129,15 @@ impl Call {
             op: Op::ConvertRegister,
             given: 0,
             lent: vec![register],
+        }
+    }
+
+    /// The reading of a tagged text, or the writing of a record.
+    pub fn tagged(op: Op, lent: Vec<u8>, out: Vec<u8>) -> Self {
+        Call {
+            op,
+            given: 0,
+            lent: vec![lent, out],
         }
     }
 
@@ -153,6 +182,12 @@ impl Call {
                 let converted = subject.convert_register(register.bytes_mut());
                 vec![converted.refusal, converted.slot]
             }
+            (Op::ReadTagged, [text, out]) => {
+                tagged_numbers(&subject.read_tagged(text.bytes(), out.bytes_mut()))
+            }
+            (Op::WriteTagged, [record, out]) => {
+                tagged_numbers(&subject.write_tagged(record.bytes(), out.bytes_mut()))
+            }
             (op, lent) => panic!("{} lends {} buffers", op.name(), lent.len()),
         }
     }
@@ -181,7 +216,11 @@ impl Call {
     }
 }
 
-fn taken_numbers(taken: &crate::model::Taken) -> Vec<u32> {
+fn tagged_numbers(tagged: &Tagged) -> Vec<u32> {
+    vec![tagged.refusal, tagged.position, tagged.bytes]
+}
+
+fn taken_numbers(taken: &Taken) -> Vec<u32> {
     vec![
         taken.refusal,
         taken.place,

@@ -28,14 +28,26 @@ impl Part {
     ];
 }
 
-/// Refusal numbers go to 28.
-const NUMBERS: usize = 29;
+/// What counts the calls of a kind of runs.
+pub trait Notes: Default {
+    /// Counts a call's outcome.
+    fn note(&mut self, call: &Call, outcome: &Outcome);
+    /// What came up, a line a kind.
+    fn lines(&self) -> Vec<String>;
+    /// What never came up.
+    fn missing(&self) -> Vec<String>;
+}
 
-/// The counts.
+/// Refusal numbers of files and stores go to 28.
+const NUMBERS: usize = 29;
+/// Calls of files and stores.
+const OPS: usize = Op::OF_FILES.len();
+
+/// The counts of runs of files.
 pub struct Coverage {
-    refusals: [[u64; NUMBERS]; Op::COUNT],
-    answers: [[u64; NUMBERS]; Op::COUNT],
-    faults: [[u64; RECORD + 1]; Op::COUNT],
+    refusals: [[u64; NUMBERS]; OPS],
+    answers: [[u64; NUMBERS]; OPS],
+    faults: [[u64; RECORD + 1]; OPS],
     damaged: [[u64; RECORD]; 4],
     occasions: [u64; OCCASIONS.len()],
 }
@@ -43,9 +55,9 @@ pub struct Coverage {
 impl Default for Coverage {
     fn default() -> Self {
         Coverage {
-            refusals: [[0; NUMBERS]; Op::COUNT],
-            answers: [[0; NUMBERS]; Op::COUNT],
-            faults: [[0; RECORD + 1]; Op::COUNT],
+            refusals: [[0; NUMBERS]; OPS],
+            answers: [[0; NUMBERS]; OPS],
+            faults: [[0; RECORD + 1]; OPS],
             damaged: [[0; RECORD]; 4],
             occasions: [0; OCCASIONS.len()],
         }
@@ -59,6 +71,7 @@ fn refusals(op: Op) -> &'static [usize] {
         Op::Lookup => &[0, 1, 10],
         Op::WriteLoad => &[0, 1, 25, 26],
         Op::ConvertRegister => &[0, 1, 28],
+        Op::ReadTagged | Op::WriteTagged => &[],
     }
 }
 
@@ -67,7 +80,7 @@ fn answers(op: Op) -> &'static [usize] {
     match op {
         Op::TakeData => &[0, 11, 12, 13, 14, 15, 16, 17, 18, 19, 20],
         Op::TakeGuide => &[0, 21, 22, 23, 24],
-        Op::Lookup | Op::WriteLoad | Op::ConvertRegister => &[],
+        _ => &[],
     }
 }
 
@@ -76,13 +89,19 @@ fn fields(op: Op) -> &'static [Field] {
     match op {
         Op::TakeData => &record::FIELDS,
         Op::TakeGuide => &row::FIELDS,
-        Op::Lookup | Op::WriteLoad | Op::ConvertRegister => &[],
+        _ => &[],
     }
 }
 
 impl Coverage {
-    /// Counts a call's outcome.
-    pub fn note(&mut self, call: &Call, outcome: &Outcome) {
+    /// Counts a damaged byte, from 0.
+    pub fn note_damage(&mut self, part: Part, byte: usize) {
+        self.damaged[part as usize][byte] += 1;
+    }
+}
+
+impl Notes for Coverage {
+    fn note(&mut self, call: &Call, outcome: &Outcome) {
         let op = call.op as usize;
         let refusal = outcome.refusal() as usize;
         self.refusals[op][refusal] += 1;
@@ -101,19 +120,13 @@ impl Coverage {
         }
     }
 
-    /// Counts a damaged byte, from 0.
-    pub fn note_damage(&mut self, part: Part, byte: usize) {
-        self.damaged[part as usize][byte] += 1;
-    }
-
-    /// What came up, a line a kind.
-    pub fn lines(&self) -> Vec<String> {
+    fn lines(&self) -> Vec<String> {
         let mut lines = Vec::new();
         let list = |numbers: &[usize], counts: &[u64]| -> String {
             let one = |&number: &usize| format!(" {number}:{}", counts[number]);
             numbers.iter().map(one).collect()
         };
-        for op in Op::ALL {
+        for op in Op::OF_FILES {
             let (name, at) = (op.name(), op as usize);
             let refusals = list(refusals(op), &self.refusals[at]);
             lines.push(format!("{name} refusals{refusals}"));
@@ -139,15 +152,14 @@ impl Coverage {
         lines
     }
 
-    /// What never came up.
-    pub fn missing(&self) -> Vec<String> {
+    fn missing(&self) -> Vec<String> {
         let mut missing = Vec::new();
         let mut want = |count: u64, what: String| {
             if count == 0 {
                 missing.push(what);
             }
         };
-        for op in Op::ALL {
+        for op in Op::OF_FILES {
             let (name, at) = (op.name(), op as usize);
             for &number in refusals(op) {
                 want(

@@ -10,12 +10,12 @@ use crate::model::layout::{
 use crate::random::Random;
 
 /// Bytes next to the ends of what the rules allow.
-const BYTES: &[u8] = b"\x00\x01\x02\x03\x04\x1f !/01569:@ACDEIMNOUWZ[az~\x7f\x80\xff*";
+pub const BYTES: &[u8] = b"\x00\x01\x02\x03\x04\x1f !/01569:@ACDEIMNOUWZ[az~\x7f\x80\xff*";
 /// Last cycles at which something changes.
 pub const LASTS: [u32; 6] = [0, 1, 999_998, 999_999, 1_000_000, u32::MAX];
 
 /// Texts that a field of this form may or may not hold.
-fn texts(form: Form) -> &'static [&'static [u8]] {
+pub fn texts(form: Form) -> &'static [&'static [u8]] {
     match form {
         Form::Free => &[b"", b" x", b"\x7f"],
         Form::Text => &[b"", b" x", b"x", b"x y", b"  X", b"\x1f", b"~"],
@@ -231,6 +231,7 @@ pub fn damage(random: &mut Random, coverage: &mut Coverage, call: &mut Call) -> 
             damage_store(random, coverage, Op::TakeData, &mut call.lent[0]);
             false
         }
+        Op::ReadTagged | Op::WriteTagged => unreachable!("texts are damaged elsewhere"),
     }
 }
 

@@ -32,7 +32,7 @@ fn take(world: &World, op: Op, file: Vec<u8>, answers: usize) -> Call {
 
 impl<A: Subject, B: Subject> Explorer<'_, A, B> {
     /// Every edge once.
-    pub fn edges(&mut self, seed: u64) -> Result<(), Finding> {
+    pub(crate) fn every_edge(&mut self, seed: u64) -> Result<(), Finding> {
         for (place, slots) in SLOTS.into_iter().enumerate() {
             let mut world = World::sized(seed ^ place as u64, slots, slots);
             self.file_sizes(&mut world)?;

@@ -1,7 +1,7 @@
 //! Compares two subjects on random runs, and holds the runs to the demands.
 
 use crate::call::{Call, Op, Outcome};
-use crate::coverage::Coverage;
+use crate::coverage::{Coverage, Notes};
 use crate::damage::damage;
 use crate::demands::{round_trip, History};
 use crate::gen::World;
@@ -31,24 +31,63 @@ fn not_kept(what: &str, seed: u64, call: &Call, outcome: &Outcome) -> Finding {
     }
 }
 
+/// Runs of one kind: of files and stores, or of tagged texts.
+pub trait Runs {
+    /// What counts their calls.
+    type Notes: Notes;
+
+    /// Every edge once.
+    fn edges(&mut self, seed: u64) -> Result<(), Finding>;
+
+    /// One seeded run.
+    fn run(&mut self, seed: u64) -> Result<(), Finding>;
+
+    /// How many calls were compared.
+    fn calls(&self) -> u64;
+
+    /// How many cases: as a rule, calls.
+    fn cases(&self) -> u64 {
+        self.calls()
+    }
+
+    /// What came up.
+    fn notes(&self) -> &Self::Notes;
+
+    /// Every edge, then runs until `enough`.
+    fn explore(&mut self, seed: u64, enough: impl Fn(u64) -> bool) -> Result<(), Finding> {
+        self.edges(seed)?;
+        let mut seeds = Random::new(seed);
+        while !enough(self.cases()) {
+            self.run(seeds.bits())?;
+        }
+        Ok(())
+    }
+}
+
 /// Calls compared so far and what they covered.
-pub struct Explorer<'a, A, B> {
+pub struct Explorer<'a, A, B, C = Coverage> {
     expected: &'a A,
-    got: &'a B,
+    pub(crate) got: &'a B,
     /// How many calls were compared.
     pub calls: u64,
     /// What came up.
-    pub coverage: Coverage,
+    pub coverage: C,
 }
 
 impl<'a, A: Subject, B: Subject> Explorer<'a, A, B> {
-    /// Compares what is got with what is expected.
-    pub fn new(expected: &'a A, got: &'a B) -> Self {
+    /// Compares what is got with what is expected, on files and stores.
+    pub fn of_files(expected: &'a A, got: &'a B) -> Self {
+        Explorer::new(expected, got)
+    }
+}
+
+impl<'a, A: Subject, B: Subject, C: Notes> Explorer<'a, A, B, C> {
+    pub(crate) fn new(expected: &'a A, got: &'a B) -> Self {
         Explorer {
             expected,
             got,
             calls: 0,
-            coverage: Coverage::default(),
+            coverage: C::default(),
         }
     }
 
@@ -77,9 +116,17 @@ impl<'a, A: Subject, B: Subject> Explorer<'a, A, B> {
             line: line(&small, &both(&small).0, "expected"),
         }
     }
+}
 
-    /// One run, from empty stores or from a register that is converted first.
-    pub fn run(&mut self, seed: u64) -> Result<(), Finding> {
+impl<A: Subject, B: Subject> Runs for Explorer<'_, A, B> {
+    type Notes = Coverage;
+
+    fn edges(&mut self, seed: u64) -> Result<(), Finding> {
+        self.every_edge(seed)
+    }
+
+    /// From empty stores or from a register that is converted first.
+    fn run(&mut self, seed: u64) -> Result<(), Finding> {
         let mut random = Random::new(!seed);
         let old = if random.chance(20) {
             self.old_run(seed, &mut random)?
@@ -107,6 +154,16 @@ impl<'a, A: Subject, B: Subject> Explorer<'a, A, B> {
         Ok(())
     }
 
+    fn calls(&self) -> u64 {
+        self.calls
+    }
+
+    fn notes(&self) -> &Coverage {
+        &self.coverage
+    }
+}
+
+impl<A: Subject, B: Subject> Explorer<'_, A, B> {
     /// A run of before: files taken by the model under the former reading, then
     /// the conversion, which is compared and must leave what the history says.
     /// None if it is refused.

@@ -1,6 +1,6 @@
 //! A safe face of the compiled static libraries. The only file with `unsafe`.
 
-use crate::model::{Converted, Found, Loaded, Taken};
+use crate::model::{Converted, Found, Loaded, Tagged, Taken};
 use crate::subject::Subject;
 
 extern "C" {
@@ -41,6 +41,20 @@ extern "C" {
     ) -> Loaded;
 
     fn hakkiyolu_convert_register(register: *mut u8, register_length: usize) -> Converted;
+
+    fn hakkiyolu_read_tagged(
+        text: *const u8,
+        text_length: usize,
+        rec: *mut u8,
+        rec_length: usize,
+    ) -> Tagged;
+
+    fn hakkiyolu_write_tagged(
+        rec: *const u8,
+        rec_length: usize,
+        text: *mut u8,
+        text_length: usize,
+    ) -> Tagged;
 
     fn hakkiyolu_lookup(
         register: *const u8,
@@ -154,6 +168,14 @@ impl Subject for Library {
 
     fn convert_register(&self, register: &mut [u8]) -> Converted {
         unsafe { hakkiyolu_convert_register(start_mut(register), register.len()) }
+    }
+
+    fn read_tagged(&self, text: &[u8], rec: &mut [u8]) -> Tagged {
+        unsafe { hakkiyolu_read_tagged(start(text), text.len(), start_mut(rec), rec.len()) }
+    }
+
+    fn write_tagged(&self, rec: &[u8], text: &mut [u8]) -> Tagged {
+        unsafe { hakkiyolu_write_tagged(start(rec), rec.len(), start_mut(text), text.len()) }
     }
 }
 

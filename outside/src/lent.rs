@@ -7,6 +7,15 @@ fn pattern(place: usize) -> u8 {
     (place as u8).wrapping_mul(29) ^ 0xa5
 }
 
+/// Whether guard bytes from this place on are as they were; without a branch, so
+/// that it runs over many bytes at a time.
+fn is_pattern(guard: &[u8], from: usize) -> bool {
+    guard
+        .iter()
+        .zip(from..)
+        .fold(true, |good, (&byte, place)| good & (byte == pattern(place)))
+}
+
 /// A buffer to lend, with a guard area on either side.
 pub struct Lent {
     all: Vec<u8>,
@@ -40,8 +49,7 @@ impl Lent {
     /// Whether both guard areas are as they were.
     pub fn is_intact(&self) -> bool {
         let end = self.start + self.length;
-        let mut guards = (0..self.start).chain(end..end + GUARD);
-        guards.all(|place| self.all[place] == pattern(place))
+        is_pattern(&self.all[..self.start], 0) && is_pattern(&self.all[end..], end)
     }
 }
 

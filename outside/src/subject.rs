@@ -1,9 +1,9 @@
 //! What is compared: the model under some rules, or the compiled library.
 
-use crate::model::{self, Converted, Found, Loaded, Rules, Taken};
+use crate::model::{self, Converted, Found, Loaded, Rules, Tagged, Taken};
 use std::marker::PhantomData;
 
-/// The five functions.
+/// The seven functions.
 pub trait Subject {
     /// Takes a data file.
     fn take_data(
@@ -40,6 +40,12 @@ pub trait Subject {
 
     /// Converts a register written by the former reading.
     fn convert_register(&self, register: &mut [u8]) -> Converted;
+
+    /// Reads a tagged text into a record.
+    fn read_tagged(&self, text: &[u8], rec: &mut [u8]) -> Tagged;
+
+    /// Writes a record as a tagged text.
+    fn write_tagged(&self, rec: &[u8], text: &mut [u8]) -> Tagged;
 }
 
 /// The model under these rules.
@@ -98,5 +104,13 @@ impl<R: Rules> Subject for Model<R> {
 
     fn convert_register(&self, register: &mut [u8]) -> Converted {
         model::convert_register::<R>(register)
+    }
+
+    fn read_tagged(&self, text: &[u8], rec: &mut [u8]) -> Tagged {
+        model::read_tagged::<R>(text, rec)
+    }
+
+    fn write_tagged(&self, rec: &[u8], text: &mut [u8]) -> Tagged {
+        model::write_tagged::<R>(rec, text)
     }
 }

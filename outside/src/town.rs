@@ -1,7 +1,7 @@
 //! Full stores and files of a size, the same every time, for the benchmark.
 
 use crate::gen::{file, put};
-use crate::model::layout::{record, row, GUIDE_SLOT, RECORD, REGISTER_SLOT, ROW, SLOT_HEAD};
+use crate::model::layout::{record, row, Field, GUIDE_SLOT, RECORD, REGISTER_SLOT, ROW, SLOT_HEAD};
 use crate::model::{take_data, take_guide, Described, Former, Rules};
 
 /// Rows of one street.
@@ -74,6 +74,35 @@ pub fn record_at(code: u8, index: usize, rows: usize, company: &[u8], date: &[u8
     put(&mut whole, record::DATE, date);
     put(&mut whole, record::COMPANY_ID, company);
     put(&mut whole, record::STAR, b"*");
+    whole
+}
+
+/// That record with every field that has a label.
+pub fn full_record_at(index: usize, rows: usize) -> [u8; RECORD] {
+    let mut whole = record_at(b'I', index, rows, b"ABC", b"010124");
+    let texts: [(Field, &[u8]); 18] = [
+        (record::HOUSE_SUFFIX, b"1/2"),
+        (record::PREFIX, b"NW"),
+        (record::POST, b"SE"),
+        (record::LOCATION, b"APT 718"),
+        (record::EXCHANGE, b"SALM"),
+        (record::ESN, b"083"),
+        (record::MAIN_NPA, b"503"),
+        (record::MAIN_NUMBER, b"5550199"),
+        (record::ORDER, b"A1"),
+        (record::COUNTY, b"047"),
+        (record::ZIP, b"97301"),
+        (record::ZIP4, b"1234"),
+        (record::GENERAL_USE, b"  x"),
+        (record::CUSTOMER_CODE, b"ABC"),
+        (record::COMMENTS, b"gate 4"),
+        (record::TAR, b"T1"),
+        (record::CELL, b"77"),
+        (record::SECTOR, b"2"),
+    ];
+    for (field, text) in texts {
+        put(&mut whole, field, text);
+    }
     whole
 }
 

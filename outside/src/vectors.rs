@@ -5,6 +5,7 @@
 use crate::call::{Call, Op, Outcome};
 use crate::model::date::Day;
 use crate::model::desk::{from_hex, put_hex};
+use crate::model::layout::RECORD;
 use std::collections::HashMap;
 
 /// A line of a calls file.
@@ -33,10 +34,10 @@ pub fn parse(line: &str) -> Option<Vector> {
             Some(text) => bytes(text),
         }
     });
-    let returned = op
-        .returned()
-        .iter()
-        .map(|name| results.get(name)?.parse().ok());
+    let returned = op.returned().iter().map(|name| match results.get(name) {
+        Some(text) => text.parse().ok(),
+        None => unnamed(op, name, results.get("refusal")?),
+    });
     let expected = Outcome {
         returned: returned.collect::<Option<_>>()?,
         lent: after.collect::<Option<_>>()?,
@@ -51,6 +52,13 @@ pub fn parse(line: &str) -> Option<Vector> {
         expected,
         kind: kind.to_string(),
     })
+}
+
+/// A returned number that a line does not name: the bytes that a reading of a
+/// tagged text wrote, which its refusal tells.
+fn unnamed(op: Op, name: &str, refusal: &str) -> Option<u32> {
+    let known = op == Op::ReadTagged && name == "bytes";
+    known.then_some(if refusal == "0" { RECORD as u32 } else { 0 })
 }
 
 /// Reads one line of OP `date`: the date and its day.
@@ -142,6 +150,8 @@ mod tests {
             world.lookup(),
             world.write_load(),
             world.convert(),
+            Call::tagged(Op::ReadTagged, world.tagged_parts().text(), vec![1; 513]),
+            Call::tagged(Op::WriteTagged, world.record().to_vec(), vec![1; 452]),
         ];
         for call in calls {
             let outcome = call.run(&Model::<Described>::new(), 0);
@@ -150,6 +160,17 @@ mod tests {
             assert_eq!((read.expected, read.call.given), (outcome, call.given));
             assert_eq!(read.kind, "kind");
         }
+    }
+
+    #[test]
+    fn a_reading_need_not_name_its_bytes() {
+        let numbers = |line: &str| parse(line).map(|vector| vector.expected.returned);
+        let done = "read_tagged text=44 out= -> refusal=0 position=0 text=same out=(20*512)";
+        assert_eq!(numbers(done), Some(vec![0, 0, 512]));
+        let refused = "read_tagged text=44 out= -> refusal=33 position=0 text=same out=same";
+        assert_eq!(numbers(refused), Some(vec![33, 0, 0]));
+        let writing = "write_tagged record=44 out= -> refusal=9 position=0 record=same out=same";
+        assert_eq!(numbers(writing), None);
     }
 
     #[test]

@@ -1,12 +1,13 @@
 //! Every date against a calendar that is walked day by day, by the full rule for
 //! leap years and without a formula: the model's reader, and the library's by
-//! what its calls store and refuse.
+//! what its calls store and refuse. And every CPD of a tagged text.
 
 use outside::dates::{day_read, days_stored};
 use outside::face::Library;
 use outside::model::date::{day, Day};
-use outside::model::layout::MOST_SLOTS;
+use outside::model::layout::{record, MOST_SLOTS, RECORD};
 use outside::model::Described;
+use outside::subject::{Model, Subject};
 use std::collections::HashMap;
 
 const DAYS: usize = 36525;
@@ -27,12 +28,12 @@ fn month_length(year: u32, month: u32) -> u32 {
     }
 }
 
-/// The dates of 1970 to 2069, one day after the other.
-fn walk() -> Vec<[u8; 6]> {
-    let mut dates = Vec::new();
+/// Year, month and day of 1970 to 2069, one day after the other.
+fn days() -> Vec<(u32, u32, u32)> {
+    let mut days = Vec::new();
     let (mut year, mut month, mut of_month) = (1970, 1, 1);
     while year < 2070 {
-        dates.push(mmddyy(month, of_month, year));
+        days.push((year, month, of_month));
         of_month += 1;
         if of_month > month_length(year, month) {
             (month, of_month) = (month + 1, 1);
@@ -41,7 +42,13 @@ fn walk() -> Vec<[u8; 6]> {
             (year, month) = (year + 1, 1);
         }
     }
-    dates
+    days
+}
+
+/// Their dates.
+fn walk() -> Vec<[u8; 6]> {
+    let date = |(year, month, of_month)| mmddyy(month, of_month, year);
+    days().into_iter().map(date).collect()
 }
 
 /// Months 00 to 13, days 00 to 32, years 00 to 99: all dates and much that is none.
@@ -106,4 +113,39 @@ fn the_library_takes_nothing_else_for_a_date() {
         }
     }
     assert_eq!((dates, others), (DAYS, 14 * 33 * 100 - DAYS));
+}
+
+/// A text with this completion date.
+fn completed(date: &str) -> String {
+    format!("DAT|FOCD|CPN5035550100|CPD{date}|CPFA\n")
+}
+
+/// Every CPD of 1970 to 2069 is read as its MMDDYY and written back, and no other
+/// year has a form in Version 2.
+fn words_every_date(subject: &impl Subject) {
+    let (mut whole, mut out) = ([0; RECORD], [0; 90]);
+    for (year, month, of_month) in days() {
+        let text = completed(&format!("{year}-{month:02}-{of_month:02}"));
+        let read = subject.read_tagged(text.as_bytes(), &mut whole);
+        assert_eq!(read.refusal, 0, "{text}");
+        assert_eq!(record::DATE.of(&whole), mmddyy(month, of_month, year));
+        let written = subject.write_tagged(&whole, &mut out);
+        assert_eq!(&out[..written.bytes as usize], text.as_bytes());
+    }
+    for year in 0..=9999 {
+        let text = completed(&format!("{year:04}-06-15"));
+        let refusal = subject.read_tagged(text.as_bytes(), &mut whole).refusal;
+        let expected = if (1970..2070).contains(&year) { 0 } else { 36 };
+        assert_eq!(refusal, expected, "{text}");
+    }
+}
+
+#[test]
+fn the_model_words_every_date() {
+    words_every_date(&Model::<Described>::new());
+}
+
+#[test]
+fn the_library_words_every_date() {
+    words_every_date(&Library);
 }

@@ -1,23 +1,26 @@
 //! The library against the model, for as long as a test may last.
 
-use outside::explore::Explorer;
+use outside::coverage::Notes;
+use outside::explore::{Explorer, Runs};
 use outside::face::Library;
 use outside::model::Described;
-use outside::random::Random;
 use outside::subject::Model;
 
-#[test]
-fn the_library_does_as_the_model() {
-    let model = Model::<Described>::new();
-    let mut explorer = Explorer::new(&model, &Library);
-    let mut seeds = Random::new(7);
-    let mut found = explorer.edges(7);
-    while found.is_ok() && explorer.calls < 20_000 {
-        found = explorer.run(seeds.bits());
-    }
-    if let Err(finding) = found {
+const MODEL: Model<Described> = Model::new();
+
+fn does_as_the_model(mut runs: impl Runs) {
+    if let Err(finding) = runs.explore(7, |cases| cases >= 20_000) {
         panic!("{}\n{}", finding.what, finding.line);
     }
-    let missing = explorer.coverage.missing();
-    assert_eq!(missing, [""; 0]);
+    assert_eq!(runs.notes().missing(), [""; 0]);
+}
+
+#[test]
+fn the_library_does_as_the_model_with_files() {
+    does_as_the_model(Explorer::of_files(&MODEL, &Library));
+}
+
+#[test]
+fn the_library_does_as_the_model_with_texts() {
+    does_as_the_model(Explorer::of_texts(&MODEL, &Library));
 }

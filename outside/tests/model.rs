@@ -1,10 +1,11 @@
-//! The model against itself: the differential run is quiet, keeps the demands,
-//! brings everything up, and sees each fault that is put in by hand.
+//! The model against itself: the differential runs are quiet, keep the demands,
+//! bring everything up, and see each fault that is put in by hand.
 
-use outside::explore::Explorer;
+use outside::coverage::Notes;
+use outside::explore::{Explorer, Runs};
 use outside::model::rules::{
-    ClashWithoutParity, Described, NinetyOneDays, NoCycleWrap, NoLeapYear, NoLeftJustify,
-    PivotOneOff, RestingForgotten,
+    ClashWithoutParity, CpdFrom1960, Described, NinetyOneDays, NoCycleWrap, NoLeapYear,
+    NoLeftJustify, PivotOneOff, RestingForgotten, TrimmedFirst, UnfitFirst,
 };
 use outside::model::Rules;
 use outside::random::Random;
@@ -12,39 +13,51 @@ use outside::subject::Model;
 
 const GOOD: Model<Described> = Model::new();
 
-#[test]
-fn a_quiet_run_brings_everything_up() {
-    let mut explorer = Explorer::new(&GOOD, &GOOD);
-    let mut seeds = Random::new(1);
-    let mut found = explorer.edges(1);
-    while found.is_ok() && explorer.calls < 20_000 {
-        found = explorer.run(seeds.bits());
-    }
-    if let Err(finding) = found {
+fn is_quiet_and_brings_everything_up(mut runs: impl Runs) {
+    if let Err(finding) = runs.explore(1, |cases| cases >= 20_000) {
         panic!("{}\n{}", finding.what, finding.line);
     }
-    assert_eq!(explorer.coverage.missing(), [""; 0]);
+    assert_eq!(runs.notes().missing(), [""; 0]);
 }
 
-/// Whether the run sees the fault in time.
-fn is_seen<R: Rules>() -> bool {
-    let faulty = Model::<R>::new();
-    let mut explorer = Explorer::new(&faulty, &GOOD);
+#[test]
+fn a_quiet_run_of_files_brings_everything_up() {
+    is_quiet_and_brings_everything_up(Explorer::of_files(&GOOD, &GOOD));
+}
+
+#[test]
+fn a_quiet_run_of_texts_brings_everything_up() {
+    is_quiet_and_brings_everything_up(Explorer::of_texts(&GOOD, &GOOD));
+}
+
+/// Whether the runs see the fault in time.
+fn is_seen(mut runs: impl Runs) -> bool {
     let mut seeds = Random::new(1);
     let mut seen = false;
-    while !seen && explorer.calls < 20_000 {
-        seen = explorer.run(seeds.bits()).is_err();
+    while !seen && runs.calls() < 20_000 {
+        seen = runs.run(seeds.bits()).is_err();
     }
     seen
 }
 
+fn is_seen_in_files<R: Rules>() -> bool {
+    is_seen(Explorer::of_files(&Model::<R>::new(), &GOOD))
+}
+
+fn is_seen_in_texts<R: Rules>() -> bool {
+    is_seen(Explorer::of_texts(&Model::<R>::new(), &GOOD))
+}
+
 #[test]
 fn every_fault_is_seen() {
-    assert!(is_seen::<NinetyOneDays>());
-    assert!(is_seen::<ClashWithoutParity>());
-    assert!(is_seen::<NoLeftJustify>());
-    assert!(is_seen::<NoLeapYear>());
-    assert!(is_seen::<NoCycleWrap>());
-    assert!(is_seen::<PivotOneOff>());
-    assert!(is_seen::<RestingForgotten>());
+    assert!(is_seen_in_files::<NinetyOneDays>());
+    assert!(is_seen_in_files::<ClashWithoutParity>());
+    assert!(is_seen_in_files::<NoLeftJustify>());
+    assert!(is_seen_in_files::<NoLeapYear>());
+    assert!(is_seen_in_files::<NoCycleWrap>());
+    assert!(is_seen_in_files::<PivotOneOff>());
+    assert!(is_seen_in_files::<RestingForgotten>());
+    assert!(is_seen_in_texts::<UnfitFirst>());
+    assert!(is_seen_in_texts::<TrimmedFirst>());
+    assert!(is_seen_in_texts::<CpdFrom1960>());
 }

@@ -1,10 +1,13 @@
-// The C face of the takes, the load file and the conversion: nothing but calls.
+// The C face of the takes, the load file, the conversion and the tagged record: nothing but calls.
 ghost use Rattle.rules.specs.Takes.{TakesData, TakesGuide};
 ghost use Rattle.rules.specs.Loads.{WritesLoad};
 ghost use Rattle.rules.specs.Converts.{Converts};
+ghost use Rattle.tag_rules.specs.Reading.{ReadsText};
+ghost use Rattle.tag_rules.specs.Writing.{WritesText};
 use rules::Converted;
 use rules::Loaded;
 use rules::Taken;
+use tag_rules::Tagged;
 
 #[no_mangle]
 pub extern "C" fn hakkiyolu_take_data(
@@ -50,4 +53,18 @@ pub extern "C" fn hakkiyolu_convert_register(register: &mut [u8]) -> Converted
     ensures { λ r. ⌜ Converts (now (register .entry)) r (now (register .exit)) ⌝ }
 {
     converting::convert(&mut register[..])
+}
+
+#[no_mangle]
+pub extern "C" fn hakkiyolu_read_tagged(text: &[u8], rec: &mut [u8]) -> Tagged
+    ensures { λ r. ⌜ ReadsText (now (text .entry)) (now (rec .entry)) r (now (rec .exit)) ⌝ }
+{
+    tagged::read::read(text, &mut rec[..])
+}
+
+#[no_mangle]
+pub extern "C" fn hakkiyolu_write_tagged(rec: &[u8], text: &mut [u8]) -> Tagged
+    ensures { λ r. ⌜ WritesText (now (rec .entry)) (now (text .entry)) r (now (text .exit)) ⌝ }
+{
+    tagged::write::write(rec, &mut text[..])
 }

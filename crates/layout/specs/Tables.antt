@@ -224,8 +224,17 @@ callingNumber = 2
 abbrev pub houseNumber : ℕ
 houseNumber = 3
 
+abbrev pub houseSuffix : ℕ
+houseSuffix = 4
+
 abbrev pub prefix : ℕ
 prefix = 5
+
+abbrev pub streetName : ℕ
+streetName = 6
+
+abbrev pub streetSuffix : ℕ
+streetSuffix = 7
 
 abbrev pub post : ℕ
 post = 8
@@ -239,14 +248,35 @@ state = 10
 abbrev pub location : ℕ
 location = 11
 
+abbrev pub customerName : ℕ
+customerName = 12
+
+abbrev pub serviceClass : ℕ
+serviceClass = 13
+
+abbrev pub serviceType : ℕ
+serviceType = 14
+
+abbrev pub exchange : ℕ
+exchange = 15
+
 abbrev pub esn : ℕ
 esn = 16
 
 abbrev pub mainNpa : ℕ
 mainNpa = 17
 
+abbrev pub mainNumber : ℕ
+mainNumber = 18
+
+abbrev pub order : ℕ
+order = 19
+
 abbrev pub date : ℕ
 date = 20
+
+abbrev pub county : ℕ
+county = 21
 
 abbrev pub companyId : ℕ
 companyId = 22
@@ -257,8 +287,38 @@ source = 23
 abbrev pub zip : ℕ
 zip = 24
 
+abbrev pub zip4 : ℕ
+zip4 = 25
+
+abbrev pub generalUse : ℕ
+generalUse = 26
+
+abbrev pub customerCode : ℕ
+customerCode = 27
+
+abbrev pub comments : ℕ
+comments = 28
+
+abbrev pub x : ℕ
+x = 29
+
 abbrev pub z : ℕ
 z = 31
+
+abbrev pub cell : ℕ
+cell = 32
+
+abbrev pub sector : ℕ
+sector = 33
+
+abbrev pub tar : ℕ
+tar = 34
+
+abbrev pub reserved : ℕ
+reserved = 35
+
+abbrev pub recordStar : ℕ
+recordStar = 36
 
 -- those of the guide row,
 

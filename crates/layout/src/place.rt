@@ -8,6 +8,8 @@ use crate::table::TRAILER;
 // The data record.
 pub const FUNCTION_AT: usize = RECORD[3 * table::FUNCTION] - 1;
 
+pub const FUNCTION_SIZE: usize = RECORD[3 * table::FUNCTION + 1];
+
 pub const NPA_AT: usize = RECORD[3 * table::NPA] - 1;
 
 pub const NPA_SIZE: usize = RECORD[3 * table::NPA + 1];
@@ -25,6 +27,8 @@ pub const HOUSE_SUFFIX_AT: usize = RECORD[3 * table::HOUSE_SUFFIX] - 1;
 pub const HOUSE_SUFFIX_SIZE: usize = RECORD[3 * table::HOUSE_SUFFIX + 1];
 
 pub const PREFIX_AT: usize = RECORD[3 * table::PREFIX] - 1;
+
+pub const PREFIX_SIZE: usize = RECORD[3 * table::PREFIX + 1];
 
 pub const STREET_NAME_AT: usize = RECORD[3 * table::STREET_NAME] - 1;
 
@@ -56,7 +60,11 @@ pub const CUSTOMER_NAME_SIZE: usize = RECORD[3 * table::CUSTOMER_NAME + 1];
 
 pub const CLASS_AT: usize = RECORD[3 * table::CLASS] - 1;
 
+pub const CLASS_SIZE: usize = RECORD[3 * table::CLASS + 1];
+
 pub const TYPE_AT: usize = RECORD[3 * table::TYPE] - 1;
+
+pub const TYPE_SIZE: usize = RECORD[3 * table::TYPE + 1];
 
 pub const EXCHANGE_AT: usize = RECORD[3 * table::EXCHANGE] - 1;
 
@@ -91,6 +99,8 @@ pub const COMPANY_AT: usize = RECORD[3 * table::COMPANY_ID] - 1;
 pub const COMPANY_SIZE: usize = RECORD[3 * table::COMPANY_ID + 1];
 
 pub const SOURCE_AT: usize = RECORD[3 * table::SOURCE] - 1;
+
+pub const SOURCE_SIZE: usize = RECORD[3 * table::SOURCE + 1];
 
 pub const ZIP_AT: usize = RECORD[3 * table::ZIP] - 1;
 
@@ -142,8 +152,17 @@ pub const RESERVED_SIZE: usize = RECORD[3 * table::RESERVED + 1];
 
 pub const RECORD_STAR_AT: usize = RECORD[3 * table::RECORD_STAR] - 1;
 
-// NPA and Calling Number are the number; the street fields lie in two spans.
+pub const RECORD_STAR_SIZE: usize = RECORD[3 * table::RECORD_STAR + 1];
+
+// NPA and Calling Number are the number; Main NPA and Main Number, Zip and Zip+4, and X to Z lie one behind the other too; the street
+// fields lie in two spans.
 pub const NUMBER_SIZE: usize = CALLING_AT + CALLING_SIZE - NPA_AT;
+
+pub const MAIN_SIZE: usize = MAIN_NUMBER_AT + MAIN_NUMBER_SIZE - MAIN_NPA_AT;
+
+pub const ZIP_BOTH_SIZE: usize = ZIP_4_AT + ZIP_4_SIZE - ZIP_AT;
+
+pub const XYZ_SIZE: usize = Z_AT + Z_SIZE - X_AT;
 
 pub const STREET_SIZE: usize = POST_AT + POST_SIZE - PREFIX_AT;
 

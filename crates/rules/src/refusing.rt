@@ -39,3 +39,18 @@ pub const LOAD_HEADER: u32 = 26;
 
 // "a stored day above 25567 has no reading now and is reported by its slot"
 pub const NO_READING: u32 = 28;
+
+// "no `DAT` or newline"
+pub const NO_TEXT: u32 = 33;
+
+// "label not taken or cut short"
+pub const LABEL: u32 = 34;
+
+// "label twice"
+pub const LABEL_TWICE: u32 = 35;
+
+// "value too long or with no Version 2 form"
+pub const VALUE: u32 = 36;
+
+// "when writing .., if a value contains `|`, a field without a label (`*` apart) isn't blank, .."
+pub const NO_TAGGED_FORM: u32 = 37;

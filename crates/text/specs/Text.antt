@@ -2,11 +2,11 @@
 -- Assumes nothing.
 use Prim.Native.Nat.{ℕ, zero, suc, _+_, _*_, _-_, _/_, _%_}
 use mathlib.Core.List.{List, [], _∷_, _++_}
-use mathlib.Core.Bool.{Bool, true, false, _&&_, _||_, cond}
+use mathlib.Core.Bool.{Bool, true, false, _&&_, _||_, not, cond}
 use lib.Dec.{leb, ltb, eqb}
 use lib.ListN.{length, take, drop, replicate}
 use Rattle.text.specs.declared.Class.{Class}
-use Rattle.text.specs.declared.Class.the-variants.{Printable, Space, Digit, Capital, CapitalOrDigit}
+use Rattle.text.specs.declared.Class.the-variants.{Printable, Space, Digit, Capital, CapitalOrDigit, Unbarred}
 use Rattle.text.specs.declared.Spelled.{Spelled}
 use Rattle.text.specs.declared.Spelled.the-variants.{Number, NoNumber}
 
@@ -22,6 +22,7 @@ inClass Space b = eqb b 32
 inClass Digit b = inRange 48 b 57
 inClass Capital b = inRange 65 b 90
 inClass CapitalOrDigit b = inRange 48 b 57 || inRange 65 b 90
+inClass Unbarred b = not (eqb b 124)
 
 -- every byte is of the class
 abbrev pub allIn : Class → List ℕ → Bool
@@ -98,6 +99,11 @@ there i n s = leb (i + n) (length s)
 -- the eight bytes from i on are there, and the same in both
 unfoldable pub eightSame : ℕ → List ℕ → List ℕ → Bool
 eightSame i a b = (there i 8 a && there i 8 b) && sameBytes (part i 8 a) (part i 8 b)
+
+-- without the spaces at its end
+abbrev pub trimOf : List ℕ → List ℕ
+trimOf [] = []
+trimOf (b ∷ s) = cond (blank (b ∷ s)) [] (b ∷ trimOf s)
 
 -- ---- writing
 

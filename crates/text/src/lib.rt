@@ -5,15 +5,16 @@ ghost use mathlib.Core.List.{[], _∷_};
 ghost use Prim.Native.Nat.{_+_, _≤_, _<_, _^_};
 ghost use lib.ListN.{length, drop, getD, replicate};
 ghost use Rattle.text.specs.Text.{inClass, allIn, allEqual, blank, runOf, runsOf, digitOf, valueOf, spelled};
-ghost use Rattle.text.specs.Text.{sameBytes, memberOf, allOf, part, there, eightSame, putAt, digits, width, amongSpaces, leftDigits, rightDigits};
+ghost use Rattle.text.specs.Text.{sameBytes, memberOf, allOf, trimOf, part, there, eightSame, putAt, digits, width, amongSpaces, leftDigits, rightDigits};
 
-// The classes of bytes that the field rules name.
+// The classes of bytes that the field rules name; and every byte but `|`, which parts a tagged text.
 pub enum Class {
     Printable,
     Space,
     Digit,
     Capital,
     CapitalOrDigit,
+    Unbarred,
 }
 
 pub fn in_class(k: Class, b: u8) -> bool
@@ -25,6 +26,7 @@ pub fn in_class(k: Class, b: u8) -> bool
         Class::Digit => (b'0' <= b) & (b <= b'9'),
         Class::Capital => (b'A' <= b) & (b <= b'Z'),
         Class::CapitalOrDigit => ((b'0' <= b) & (b <= b'9')) | ((b'A' <= b) & (b <= b'Z')),
+        Class::Unbarred => b != b'|',
     }
 }
 
@@ -265,6 +267,21 @@ pub fn all_of(f: &[u8], set: &[u8]) -> bool
         }
     }
     true
+}
+
+// Without the spaces at its end.
+pub fn trimmed(f: &[u8]) -> &[u8]
+    ensures { λ r. ⌜ now r ≡ trimOf (now (f .entry)) ⌝ }
+{
+    let mut n = f.len();
+    while 0 < n {
+        if f[n - 1] == b' ' {
+            n -= 1;
+        } else {
+            return &f[0..n];
+        }
+    }
+    &f[0..0]
 }
 
 // The n bytes from i, or as many of them as there are.

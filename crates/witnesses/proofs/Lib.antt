@@ -2,3 +2,4 @@ pub mod Witness
 pub mod Instances
 pub mod TripWitness
 pub mod ConvertWitness
+pub mod TagWitness

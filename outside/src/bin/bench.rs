@@ -5,7 +5,9 @@ use outside::face::Library;
 use outside::gen::file;
 use outside::model::layout::{EDGES, GUIDE_SLOT, MOST_RECORDS, MOST_SLOTS, RECORD, REGISTER_SLOT};
 use outside::model::Described;
+use outside::random::Random;
 use outside::subject::{Model, Subject};
+use outside::texts::ENOUGH;
 use outside::town;
 use std::hint::black_box;
 use std::time::{Duration, Instant};
@@ -14,6 +16,12 @@ use std::time::{Duration, Instant};
 const ROUNDS: usize = 9;
 /// A quick thing is repeated until a round of it lasts this long.
 const ROUND: Duration = Duration::from_millis(4);
+
+/// Tagged texts, or records, of a pass.
+const TEXTS: usize = 1024;
+
+/// Of the order of pairs.
+const SEED: u64 = 2026;
 
 /// Prepares, then times, one pass of something.
 type Pass<'a> = Box<dyn FnMut() -> Duration + 'a>;
@@ -123,6 +131,66 @@ fn conversion<'a>(subject: &'a impl Subject, register: &'a [u8]) -> Pass<'a> {
         lent.copy_from_slice(register);
         timed(|| subject.convert_register(&mut lent))
     })
+}
+
+/// Readings of all texts, each into the same record.
+fn readings<'a>(subject: &'a impl Subject, texts: &'a [Vec<u8>]) -> Pass<'a> {
+    let mut whole = [0; RECORD];
+    Box::new(move || {
+        timed(|| {
+            for text in texts {
+                let read = subject.read_tagged(text, black_box(&mut whole));
+                assert_eq!(black_box(read).bytes as usize, RECORD);
+            }
+        })
+    })
+}
+
+/// Writings of all records, each into the same room.
+fn writings<'a>(subject: &'a impl Subject, records: &'a [[u8; RECORD]]) -> Pass<'a> {
+    let mut out = [0; ENOUGH];
+    Box::new(move || {
+        timed(|| {
+            for whole in records {
+                let written = subject.write_tagged(whole, black_box(&mut out));
+                assert_eq!(black_box(written).refusal, 0);
+            }
+        })
+    })
+}
+
+/// A text that was written, with its pairs in any order.
+fn scatter(random: &mut Random, text: &[u8]) -> Vec<u8> {
+    let end = text.len() - 1;
+    let mut parts: Vec<&[u8]> = text[..end].split(|&byte| byte == b'|').collect();
+    random.shuffle(&mut parts[1..]);
+    [&parts.join(&b'|'), &text[end..]].concat()
+}
+
+/// Texts of these records read, in the order of the labels and in any, and the
+/// records written.
+fn texts(labels: &str, records: &[[u8; RECORD]]) {
+    let text = |whole: &[u8; RECORD]| {
+        let mut out = [0; ENOUGH];
+        let written = MODEL.write_tagged(whole, &mut out);
+        out[..written.bytes as usize].to_vec()
+    };
+    let texts: Vec<Vec<u8>> = records.iter().map(text).collect();
+    let mut random = Random::new(SEED);
+    let scattered: Vec<Vec<u8>> = texts
+        .iter()
+        .map(|text| scatter(&mut random, text))
+        .collect();
+    for (order, texts) in [("", &texts), (", in any order", &scattered)] {
+        let (library, model) = (readings(&Library, texts), readings(&MODEL, texts));
+        let floor = copying(texts.iter().map(Vec::as_slice).collect());
+        let name = format!("read_tagged, {} texts of {labels}{order}", texts.len());
+        report(&name, library, model, floor);
+    }
+    let (library, model) = (writings(&Library, records), writings(&MODEL, records));
+    let floor = copying(records.iter().map(<[u8; RECORD]>::as_slice).collect());
+    let name = format!("write_tagged, {} records of {labels}", records.len());
+    report(&name, library, model, floor);
 }
 
 /// One byte of every slot.
@@ -239,6 +307,14 @@ fn main() {
     full.load();
     full.soundness();
     full.conversion();
+    let (few, all): (Vec<_>, Vec<_>) = (0..TEXTS)
+        .map(|index| {
+            let few = town::record_at(b'I', index, TEXTS, b"ABC", b"010124");
+            (few, town::full_record_at(index, TEXTS))
+        })
+        .unzip();
+    texts("twelve labels", &few);
+    texts("all labels", &all);
     for slots in [512, 1024, 2048, 4096] {
         let bench = Bench::new(slots);
         bench.lookups();

@@ -1,13 +1,13 @@
-//! `faults [--seed S] [--cases N] [--full]`: seven faults put into the model by
-//! hand. The differential run against the library must see each of them; `--full`
+//! `faults [--seed S] [--cases N] [--full]`: ten faults put into the model by
+//! hand. The differential runs against the library must see each of them; `--full`
 //! prints the call that showed it, made small.
 
 use outside::arguments::Arguments;
-use outside::explore::{Explorer, Finding};
+use outside::explore::{Explorer, Finding, Runs};
 use outside::face::Library;
 use outside::model::rules::{
-    ClashWithoutParity, NinetyOneDays, NoCycleWrap, NoLeapYear, NoLeftJustify, PivotOneOff,
-    RestingForgotten,
+    ClashWithoutParity, CpdFrom1960, NinetyOneDays, NoCycleWrap, NoLeapYear, NoLeftJustify,
+    PivotOneOff, RestingForgotten, TrimmedFirst, UnfitFirst,
 };
 use outside::model::Rules;
 use outside::random::Random;
@@ -18,54 +18,67 @@ use std::process::ExitCode;
 const CASES: u64 = 1_000_000;
 
 /// The difference that a faulty model shows, and the calls it took.
-fn search<R: Rules>(arguments: &Arguments) -> (u64, Option<Finding>) {
-    let faulty = Model::<R>::new();
-    let mut explorer = Explorer::new(&faulty, &Library);
+type Found = (u64, Option<Finding>);
+
+fn search(arguments: &Arguments, mut runs: impl Runs) -> Found {
     let most = arguments.cases.unwrap_or(CASES);
     let mut found = None;
     let mut seeds = Random::new(arguments.seed);
-    while found.is_none() && explorer.calls < most {
-        found = explorer.run(seeds.bits()).err();
+    while found.is_none() && runs.calls() < most {
+        found = runs.run(seeds.bits()).err();
     }
-    (explorer.calls, found)
+    (runs.calls(), found)
 }
+
+/// A fault that files show.
+fn in_files<R: Rules>(arguments: &Arguments) -> Found {
+    search(arguments, Explorer::of_files(&Model::<R>::new(), &Library))
+}
+
+/// A fault that tagged texts show.
+fn in_texts<R: Rules>(arguments: &Arguments) -> Found {
+    search(arguments, Explorer::of_texts(&Model::<R>::new(), &Library))
+}
+
+/// The faults, by their names.
+type Search = fn(&Arguments) -> Found;
+const FAULTS: [(&str, Search); 10] = [
+    ("91 days instead of 90", in_files::<NinetyOneDays>),
+    ("clash without parity", in_files::<ClashWithoutParity>),
+    ("no left-justify rule", in_files::<NoLeftJustify>),
+    ("no leap year", in_files::<NoLeapYear>),
+    ("no cycle wrap", in_files::<NoCycleWrap>),
+    ("71 instead of 70 for 19YY", in_files::<PivotOneOff>),
+    (
+        "conversion without resting slots",
+        in_files::<RestingForgotten>,
+    ),
+    ("36 tried before 35", in_texts::<UnfitFirst>),
+    (
+        "values trimmed before they are too long",
+        in_texts::<TrimmedFirst>,
+    ),
+    ("CPD of 1960 to 2059", in_texts::<CpdFrom1960>),
+];
 
 fn main() -> ExitCode {
     let arguments = Arguments::read();
     println!("seed {}", arguments.seed);
-    let faults = [
-        ("91 days instead of 90", search::<NinetyOneDays>(&arguments)),
-        (
-            "clash without parity",
-            search::<ClashWithoutParity>(&arguments),
-        ),
-        ("no left-justify rule", search::<NoLeftJustify>(&arguments)),
-        ("no leap year", search::<NoLeapYear>(&arguments)),
-        ("no cycle wrap", search::<NoCycleWrap>(&arguments)),
-        (
-            "71 instead of 70 for 19YY",
-            search::<PivotOneOff>(&arguments),
-        ),
-        (
-            "conversion without resting slots",
-            search::<RestingForgotten>(&arguments),
-        ),
-    ];
     let mut missed = 0;
-    for (name, (calls, finding)) in &faults {
-        match finding {
-            Some(finding) => {
+    for (name, search) in FAULTS {
+        match search(&arguments) {
+            (calls, Some(finding)) => {
                 println!("{name}: found at call {calls}: {}", finding.what);
                 if arguments.full {
                     println!("{}", finding.line);
                 }
             }
-            None => {
+            (calls, None) => {
                 missed += 1;
                 println!("{name}: not found in {calls} calls");
             }
         }
     }
-    println!("{} passed, {missed} failed", faults.len() - missed);
+    println!("{} passed, {missed} failed", FAULTS.len() - missed);
     ExitCode::from(u8::from(missed > 0))
 }

@@ -6,6 +6,7 @@
 mod calls;
 mod filing;
 mod old;
+mod tagged;
 
 use crate::call::Op;
 use crate::model::date::{date_of, day, Day, Reading, LAST_DAY};
@@ -221,7 +222,7 @@ impl World {
                 self.guide.clone_from(&lent[1]);
                 self.last_guide = last;
             }
-            Op::Lookup | Op::WriteLoad | Op::ConvertRegister => {}
+            _ => {}
         }
     }
 }

@@ -14,14 +14,18 @@ pub mod lookup;
 pub mod results;
 pub mod rules;
 pub mod store;
+pub mod tagged;
 pub mod take;
 
 #[cfg(test)]
 mod cases;
+#[cfg(test)]
+mod tagged_cases;
 
 pub use convert::convert_register;
 pub use load::write_load;
 pub use lookup::lookup;
-pub use results::{Converted, Found, Loaded, Taken};
+pub use results::{Converted, Found, Loaded, Tagged, Taken};
 pub use rules::{Described, Former, Rules};
+pub use tagged::{read_tagged, write_tagged};
 pub use take::{take_data, take_guide};

@@ -1,4 +1,4 @@
-//! What the five functions give back.
+//! What the seven functions give back.
 
 /// The answer to a take.
 #[repr(C)]
@@ -53,4 +53,17 @@ pub struct Converted {
     pub refusal: u32,
     /// The lowest slot, from 0, whose day has no reading now; only in refusal 28.
     pub slot: u32,
+}
+
+/// The answer to the reading and to the writing of a tagged text.
+#[repr(C)]
+#[derive(Clone, Copy, Debug, Default, PartialEq, Eq)]
+pub struct Tagged {
+    /// The refusal's number, 0 if none.
+    pub refusal: u32,
+    /// First byte of the record's first bad field, only in refusal 9; 0 where the
+    /// record to write has another length.
+    pub position: u32,
+    /// Bytes written.
+    pub bytes: u32,
 }

@@ -5,7 +5,7 @@
 use super::date::Reading;
 use std::marker::PhantomData;
 
-/// What the description decides at the seven places, and how dates are read.
+/// What the description decides at the ten places, and how dates are read.
 pub trait Rules {
     /// Days after which another number may have a resting slot.
     const RESTING_DAYS: u32 = 90;
@@ -21,6 +21,12 @@ pub trait Rules {
     const FIRST_OF_19: u32 = 70;
     /// Whether the conversion is of "each used slot", the resting ones too.
     const RESTING_CONVERTED: bool = true;
+    /// Of a tagged text: "35 label twice; 36 value too long".
+    const TWICE_FIRST: bool = true;
+    /// Whether the spaces at a value's end count for "value too long".
+    const TRAILING_SPACES_COUNT: bool = true;
+    /// "CPD as Date, MMDDYY, only where the year is 1970 to 2069."
+    const FIRST_CPD_YEAR: u32 = 1970;
     /// How dates are read.
     const READING: Reading = Reading::Present;
 }
@@ -39,6 +45,9 @@ impl<R: Rules> Rules for Former<R> {
     const CYCLE_WRAPS: bool = R::CYCLE_WRAPS;
     const FIRST_OF_19: u32 = R::FIRST_OF_19;
     const RESTING_CONVERTED: bool = R::RESTING_CONVERTED;
+    const TWICE_FIRST: bool = R::TWICE_FIRST;
+    const TRAILING_SPACES_COUNT: bool = R::TRAILING_SPACES_COUNT;
+    const FIRST_CPD_YEAR: u32 = R::FIRST_CPD_YEAR;
     const READING: Reading = Reading::Former;
 }
 
@@ -82,4 +91,22 @@ impl Rules for PivotOneOff {
 pub struct RestingForgotten;
 impl Rules for RestingForgotten {
     const RESTING_CONVERTED: bool = false;
+}
+
+/// Fault: a value that is too long is told before a label that stands twice.
+pub struct UnfitFirst;
+impl Rules for UnfitFirst {
+    const TWICE_FIRST: bool = false;
+}
+
+/// Fault: a value loses its trailing spaces before its length is tested.
+pub struct TrimmedFirst;
+impl Rules for TrimmedFirst {
+    const TRAILING_SPACES_COUNT: bool = false;
+}
+
+/// Fault: a CPD is of 1960 to 2059, read and written alike.
+pub struct CpdFrom1960;
+impl Rules for CpdFrom1960 {
+    const FIRST_CPD_YEAR: u32 = 1960;
 }

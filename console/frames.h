@@ -1,0 +1,308 @@
+/*
+ * frames.h: what the examples circle and delivery share: to frame a file, to take it, and to tell what became of it.
+ *
+ * How a file is framed. It has a header of 200 bytes, lines of one length (512 bytes for a data record, 200 for a guide
+ * row) and a trailer of 200 bytes, with nothing between them. Each of these begins as spaces and ends in `*`; a field's
+ * text stands at the field's first position, and only the trailer's count stands at its end. Header and trailer have
+ * the same date and name; the header's cycle is the next after the last file of this kind.
+ */
+#ifndef FRAMES_H
+#define FRAMES_H
+
+#include <assert.h>
+#include <stdbool.h>
+#include <stdio.h>
+#include <stdlib.h>
+#include <string.h>
+
+#include "hakkiyolu.h"
+
+/* How the examples end; what is good, and what is not, each says for itself. */
+enum status { GOOD = 0, NOT_GOOD = 1, BAD_USAGE = 2, NO_ROOM = 3 };
+
+/* The last cycle where no file was taken before. */
+enum { NONE_YET = 0 };
+
+/* A part of a line, by its first and last position, counted from 1 as the description counts them. */
+struct part {
+    size_t first, last;
+};
+
+static const struct part RECORD_FUNCTION = {1, 1}, RECORD_NUMBER = {2, 11};
+
+static const struct part ROW_PREFIX = {1, 2}, ROW_STREET = {3, 62}, ROW_SUFFIX = {63, 66}, ROW_POST = {67, 68},
+                         ROW_LOW = {69, 78}, ROW_HIGH = {79, 88}, ROW_COMMUNITY = {89, 120}, ROW_STATE = {121, 122},
+                         ROW_PARITY = {123, 123}, ROW_ESN = {124, 128}, ROW_FUNCTION = {199, 199};
+
+/* Header and trailer have the same parts but for the last: the header's cycle, the trailer's count. */
+static const struct part FRAME_MARK = {1, 5}, FRAME_DATE = {6, 11}, FRAME_NAME = {12, 61}, FRAME_CYCLE = {62, 67},
+                         FRAME_COUNT = {62, 70};
+
+/* What a header says. */
+struct heading {
+    const char *date, *name, *cycle;
+};
+
+/* A street as a guide names it. Community and state belong to it, and are told nowhere: an example has but one. */
+struct street {
+    const char *prefix, *name, *suffix, *post, *community, *state;
+};
+
+/* A guide row, and the answer it should get. */
+struct row {
+    const char *function, *low, *high, *parity;
+    const struct street *street;
+    const char *esn;
+    unsigned answer;
+};
+
+/* Bytes to lend. They come from the heap in their exact length, so that a memory checker sees any step past the end. */
+struct lent {
+    uint8_t *bytes;
+    size_t length;
+};
+
+/* What a register office keeps: the two stores and the last cycle of each kind of file. */
+struct office {
+    struct lent reg, guide;
+    uint32_t last_data, last_guide;
+};
+
+#define COUNT(list) (sizeof(list) / sizeof((list)[0]))
+
+/* ---- Framing a file -------------------------------------------------------------------------------------------- */
+
+/* So many zero bytes, which as slots are free ones. Nothing useful can be shown without memory, so it ends there. */
+static struct lent lend(size_t length)
+{
+    struct lent lent = {calloc(length, 1), length};
+    if (lent.bytes == NULL) {
+        perror("memory to lend");
+        exit(NO_ROOM);
+    }
+    return lent;
+}
+
+static struct lent lend_copy(const void *bytes, size_t length)
+{
+    struct lent lent = lend(length);
+    memcpy(lent.bytes, bytes, length);
+    return lent;
+}
+
+/* Makes a line of spaces that ends in `*`. */
+static void clear(uint8_t *line, size_t length)
+{
+    memset(line, ' ', length);
+    line[length - 1] = '*';
+}
+
+/* Puts the text at the start of its part; what follows in the part stays blank. */
+static void put(uint8_t *line, struct part part, const char *text)
+{
+    const size_t length = strlen(text);
+    assert(length <= part.last - part.first + 1);
+    memcpy(line + part.first - 1, text, length);
+}
+
+/* Puts the number at the end of its part, its last digit first; zero is one `0`. */
+static void put_count(uint8_t *line, struct part part, size_t count)
+{
+    size_t at = part.last;
+    do {
+        assert(at >= part.first);
+        line[at - 1] = (uint8_t)('0' + count % 10);
+        count /= 10;
+        at--;
+    } while (count > 0);
+}
+
+static void write_header(uint8_t *line, const struct heading *heading)
+{
+    clear(line, HAKKIYOLU_HEADER_BYTES);
+    put(line, FRAME_MARK, "UHL");
+    put(line, FRAME_DATE, heading->date);
+    put(line, FRAME_NAME, heading->name);
+    put(line, FRAME_CYCLE, heading->cycle);
+}
+
+static void write_trailer(uint8_t *line, const struct heading *heading, size_t count)
+{
+    clear(line, HAKKIYOLU_TRAILER_BYTES);
+    put(line, FRAME_MARK, "UTL");
+    put(line, FRAME_DATE, heading->date);
+    put(line, FRAME_NAME, heading->name);
+    put_count(line, FRAME_COUNT, count);
+}
+
+/* Line i, from 0, of a file. */
+static uint8_t *line_at(const struct lent *file, size_t line_length, size_t i)
+{
+    return file->bytes + HAKKIYOLU_HEADER_BYTES + line_length * i;
+}
+
+/* A file with so many empty lines between its header and its trailer. */
+static struct lent frame(const struct heading *heading, size_t line_length, size_t count)
+{
+    struct lent file = lend(HAKKIYOLU_HEADER_BYTES + line_length * count + HAKKIYOLU_TRAILER_BYTES);
+    write_header(file.bytes, heading);
+    for (size_t i = 0; i < count; i++) {
+        clear(line_at(&file, line_length, i), line_length);
+    }
+    write_trailer(line_at(&file, line_length, count), heading, count);
+    return file;
+}
+
+static void write_row(uint8_t *line, const struct row *row)
+{
+    put(line, ROW_PREFIX, row->street->prefix);
+    put(line, ROW_STREET, row->street->name);
+    put(line, ROW_SUFFIX, row->street->suffix);
+    put(line, ROW_POST, row->street->post);
+    put(line, ROW_LOW, row->low);
+    put(line, ROW_HIGH, row->high);
+    put(line, ROW_COMMUNITY, row->street->community);
+    put(line, ROW_STATE, row->street->state);
+    put(line, ROW_PARITY, row->parity);
+    put(line, ROW_ESN, row->esn);
+    put(line, ROW_FUNCTION, row->function);
+}
+
+/* ---- Telling --------------------------------------------------------------------------------------------------- */
+
+/* The length of a part without the spaces at its end. */
+static int text_length(const uint8_t *line, struct part part)
+{
+    size_t last = part.last;
+    while (last >= part.first && line[last - 1] == ' ') {
+        last--;
+    }
+    return (int)(last - part.first + 1);
+}
+
+static void print_part(const uint8_t *line, struct part part)
+{
+    printf(" %.*s", text_length(line, part), (const char *)line + part.first - 1);
+}
+
+static const char *answer_words(unsigned answer)
+{
+    static const char *const WORDS[] = {
+        "dated after its file", "the number is present already", "the number is not present",
+        "the number is still held", "the number is open", "another company holds the number",
+        "dated before the entry", "no guide row covers the address", "not the ESN of the guide row",
+        "the register is full", "clashes with a present row", "the guide is full",
+        "no such row", "an entry still lies under the row",
+    };
+    const unsigned first = HAKKIYOLU_ANSWER_DATE_AHEAD;
+    return answer >= first && answer - first < COUNT(WORDS) ? WORDS[answer - first] : "an unknown answer";
+}
+
+/* Tells what became of one record or row, behind what names it. */
+static void tell_answer(unsigned answer)
+{
+    if (answer == HAKKIYOLU_ANSWER_DONE) {
+        printf(": done");
+    } else {
+        printf(": turned away (%u), %s", answer, answer_words(answer));
+    }
+}
+
+/* Ends the line of one record or row with its answer; false if another was due. */
+static bool tell_due(unsigned answer, unsigned due)
+{
+    tell_answer(answer);
+    printf(answer == due ? "\n" : " -- NOT AS EXPECTED\n");
+    return answer == due;
+}
+
+/* Tells what became of a file; false if it was refused. */
+static bool tell_taken(const char *kind, const struct heading *heading, const struct hakkiyolu_taken *taken)
+{
+    if (taken->refusal != HAKKIYOLU_NOT_REFUSED) {
+        printf("%s of %s, cycle %s: refused (%u), record %u, position %u\n", kind, heading->name, heading->cycle,
+            (unsigned)taken->refusal, (unsigned)taken->place, (unsigned)taken->position);
+        return false;
+    }
+    printf("%s of %s, cycle %s: %u done, %u not done\n", kind, heading->name, heading->cycle,
+        (unsigned)taken->done, (unsigned)taken->undone);
+    return true;
+}
+
+/* ---- Taking files ---------------------------------------------------------------------------------------------- */
+
+/* Directionals are mostly blank, and then no gap is left for them. */
+static void print_row(const struct row *row)
+{
+    const char *const words[] = {row->street->prefix, row->street->name, row->street->suffix, row->street->post};
+    printf("  %s %s to %s", row->function, row->low, row->high);
+    for (size_t i = 0; i < COUNT(words); i++) {
+        printf("%s%s", words[i][0] == '\0' ? "" : " ", words[i]);
+    }
+    printf(", %s, ESN %s", row->parity, row->esn);
+}
+
+/* Takes the rows as one guide file; false if it was refused, or a row was not answered as is due. */
+static bool take_rows(struct office *office, const struct heading *heading, const struct row *rows, size_t count)
+{
+    struct lent file = frame(heading, HAKKIYOLU_ROW_BYTES, count);
+    struct lent answers = lend(count);
+    for (size_t i = 0; i < count; i++) {
+        write_row(line_at(&file, HAKKIYOLU_ROW_BYTES, i), &rows[i]);
+    }
+    const struct hakkiyolu_taken taken = hakkiyolu_take_guide(office->reg.bytes, office->reg.length,
+        office->guide.bytes, office->guide.length, file.bytes, file.length, answers.bytes, answers.length,
+        office->last_guide);
+    office->last_guide = taken.last;
+    bool good = tell_taken("guide file", heading, &taken);
+    for (size_t i = 0; i < taken.records; i++) {
+        print_row(&rows[i]);
+        good = tell_due(answers.bytes[i], rows[i].answer) && good;
+    }
+    free(answers.bytes);
+    free(file.bytes);
+    return good;
+}
+
+/* Takes the data file, keeps its cycle for the next, and tells what became of it; the caller tells its answers. */
+static struct hakkiyolu_taken take_file(struct office *office, const struct heading *heading, const struct lent *file,
+    const struct lent *answers)
+{
+    const struct hakkiyolu_taken taken = hakkiyolu_take_data(office->reg.bytes, office->reg.length,
+        office->guide.bytes, office->guide.length, file->bytes, file->length, answers->bytes, answers->length,
+        office->last_data);
+    office->last_data = taken.last;
+    tell_taken("data file", heading, &taken);
+    return taken;
+}
+
+/* ---- Ending ---------------------------------------------------------------------------------------------------- */
+
+/* Writes the register to a file; false, with the reason on the standard error, if that fails. */
+static bool write_register(const struct lent *reg, const char *path)
+{
+    FILE *file = fopen(path, "wb");
+    if (file == NULL) {
+        perror(path);
+        return false;
+    }
+    bool good = fwrite(reg->bytes, 1, reg->length, file) == reg->length;
+    good = fclose(file) == 0 && good; /* buffered bytes may fail only here */
+    if (!good) {
+        perror(path);
+    }
+    return good;
+}
+
+/* The status to end with. A print that failed has marked the stream, so asking once at the end is enough. */
+static enum status ended(const char *program, enum status status)
+{
+    if (fflush(stdout) == 0 && !ferror(stdout)) {
+        return status;
+    }
+    /* The status tells it in any case. */
+    (void)fprintf(stderr, "%s: the standard output cannot be written\n", program);
+    return NO_ROOM;
+}
+
+#endif

@@ -1,0 +1,14 @@
+pub mod PairLaws
+pub mod FormLaws
+pub mod TileLaws
+pub mod TagLaws
+pub mod LineLaws
+pub mod DraftLaws
+pub mod RoomLaws
+pub mod BackLaws
+pub mod ReadsBack
+pub mod Orders
+pub mod TextAnswers
+pub mod RecordRead
+pub mod Naming
+pub mod YearLaws

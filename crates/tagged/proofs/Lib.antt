@@ -1,0 +1,4 @@
+pub mod AppendLaws
+pub mod FormLaws
+pub mod TextLaws
+pub mod ReadLaws

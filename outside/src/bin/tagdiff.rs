@@ -1,0 +1,17 @@
+//! `tagdiff [--seed S] [--seconds N | --cases N] [--full]`: compares the library
+//! with the model on tagged texts, so many of them to be read, and on records to
+//! be written, and prints what came up.
+
+use outside::arguments::Arguments;
+use outside::explore::Explorer;
+use outside::face::Library;
+use outside::model::Described;
+use outside::program::differ;
+use outside::subject::Model;
+use std::process::ExitCode;
+
+fn main() -> ExitCode {
+    let model = Model::<Described>::new();
+    let mut explorer = Explorer::of_texts(&model, &Library);
+    differ(&mut explorer, &Arguments::read())
+}
