@@ -9,18 +9,18 @@ use native.Mathlib.Decide.{ℕ-discrete, decLt}
 use native.Mathlib.Omega.{arith}
 use lib.Dec.{leb, ltb, eqb}
 use lib.ListN.{length, take, drop, getD, set, take-append-drop, length-take, length-replicate}
-use lib.Seq.{take-take, take-at, drop-at, drop-drop, length-take-le}
-use borrow.Author.Tests.{leb-true, lt-ltb, le-ltb, ne-eqb, not-false}
+use lib.Seq.{take-at, drop-at, drop-drop, length-take-le}
+use borrow.Author.Tests.{eqb-true, leb-true, lt-ltb, le-ltb, eq-eqb, ne-eqb, not-false}
 use Rattle.text.specs.declared.Class.the-variants.{Unbarred}
 use Rattle.text.specs.Text.{blank, runOf, part, spaces, putAt}
-use Rattle.text.proofs.Laws.{and-left, and-true, left-at, turn, ended, same-true, same-lengths, part-is, part-short, rest-is}
+use Rattle.text.proofs.Laws.{and-left, and-right, and-true, left-at, turn, ended, same-true, same-lengths, part-is, part-short, rest-is}
 use Rattle.text.proofs.DigitLaws.{blank-spaces}
 use Rattle.layout.specs.Tables.{dataRecord}
 use Rattle.layout.specs.Rules.{recordFault}
 use Rattle.rules.specs.declared.Found.{Found}
 use Rattle.rules.specs.declared.Found.the-variants.{At, Nothing}
 use Rattle.rules.specs.Walks.{find, first}
-use Rattle.rules.proofs.WalkLaws.{clash-bool, find-some, find-none, find-nowhere, positive, numbersIn, first-in, first-append}
+use Rattle.rules.proofs.WalkLaws.{clash-bool, find-some, find-none, find-nowhere, find-same, positive, numbersIn, first-in, first-append}
 use Rattle.rules.proofs.PlaceLaws.{mid-length, mid-same}
 use Rattle.rules.proofs.SlotLaws.{put-is}
 use Rattle.tag_rules.specs.declared.Tagged.{Tagged}
@@ -38,14 +38,14 @@ use Rattle.tag_rules.proofs.RoomLaws.{span-long}
 use Rattle.tag_rules.proofs.TextAnswers.{line-long}
 use Rattle.tag_rules.proofs.Orders.{refusalBy, told, read-is}
 use Rattle.tagged.specs.declared.table.Place.{Place}
-use Rattle.tagged.specs.Walking.{Seeks, Clear}
+use Rattle.tagged.specs.Walking.{wordOf, words, isWord, Clear}
 use Rattle.tagged.proofs.TextLaws.{rowOf, fieldOf, row-in, field-is}
 
 -- ---- labels
 
--- the letters of label k are in the table
-pub label-there : (letters : List ℕ) (k : ℕ) → letters ≡ labels → k < 28 → 3 * k + 2 < length letters
-label-there letters k e h = rw e (omega arith)
+-- there is a word for each label
+pub word-there : (letters : List ℕ) (k : ℕ) → letters ≡ words → k < 28 → k < length letters
+word-there letters k e h = rw e h
 
 -- a part of three bytes
 three-part : (s : List ℕ) (i : ℕ) → i + 3 ≤ length s → part i 3 s ≡ getD s i 0 ∷ getD s (i + 1) 0 ∷ getD s (i + 2) 0 ∷ []
@@ -58,56 +58,106 @@ three-part s i h =
     ap (take 3)
     (left-at s i a ∙ ap (λ (x : List ℕ). getD s i 0 ∷ x) (left-at s (i + 1) b ∙ ap (λ (x : List ℕ). getD s (i + 1) 0 ∷ x) f))
 
--- a label, byte by byte
-pub is-label-at : (letters : List ℕ) (k : ℕ) (label : List ℕ) → letters ≡ labels → k < 28 → length label ≡ 3
-    → (eqb (getD letters (3 * k) 0) (getD label 0 0)
-    && (eqb (getD letters (3 * k + 1) 0) (getD label 1 0) && eqb (getD letters (3 * k + 2) 0) (getD label 2 0)))
-    ≡ isLabel label k
-is-label-at letters k label e h l =
-    rw (e, three-part labels (3 * k) (omega arith), three-part label 0 (omega arith), and-true) refl
-
--- no row from low to k passes: before the first, one more, and as far as is asked
-pub seeks-none : (p : ℕ → Bool) (low : ℕ) → Seeks p low low Nothing
-seeks-none p low j h l = absurd (omega arith)
-
-pub seeks-more : (p : ℕ → Bool) (low k : ℕ) → Seeks p low k Nothing → p k ≡ false → Seeks p low (k + 1) Nothing
-seeks-more p low k s e j h l = go (ℕ-discrete j k)
+-- numbers with a small rest are the same only if they are the same without it
+high : (r s m n : ℕ) → r ≤ 65535 → s ≤ 65535 → r + m * 65536 ≡ s + n * 65536 → m ≡ n
+high r s m n hr hs e = go (decLt m n) (decLt n m)
   where
-    go : Dec (j ≡ k) → p j ≡ false
-    go (yes q) = rw q e
-    go (no q) = s j h (omega arith)
+    go : Dec (m < n) → Dec (n < m) → m ≡ n
+    go (yes p) q = absurd (omega arith)
+    go (no p) (yes q) = absurd (omega arith)
+    go (no p) (no q) = omega arith
 
-pub seeks-all : (p : ℕ → Bool) (low k high : ℕ) → Seeks p low k Nothing → high ≤ k → Seeks p low high Nothing
-seeks-all p low k high s e j h l = s j h (omega arith)
+middle : (r s m n : ℕ) → r ≤ 255 → s ≤ 255 → r + m * 256 ≡ s + n * 256 → m ≡ n
+middle r s m n hr hs e = go (decLt m n) (decLt n m)
+  where
+    go : Dec (m < n) → Dec (n < m) → m ≡ n
+    go (yes p) q = absurd (omega arith)
+    go (no p) (yes q) = absurd (omega arith)
+    go (no p) (no q) = omega arith
 
--- the row of a pair is the one with its three letters, for no two labels are the same
-module _ (p : List ℕ) where
-  pub tag-short : length p < 3 → Nothing ≡ tagOf p
-  unfolding tagOf
-  tag-short h = sym (find-nowhere (isLabel p) 28 (λ j l. sym (same-lengths (labelAt j) (part 0 3 p) (not-three j l))))
+-- three bytes are the same as one number exactly if each is the same
+module _ (a b c x y z : ℕ) (ha : a ≤ 255) (hb : b ≤ 255) (hc : c ≤ 255) (hx : x ≤ 255) (hy : y ≤ 255) (hz : z ≤ 255) where
+  each : wordOf a b c ≡ wordOf x y z → (a ≡ x) × ((b ≡ y) × (c ≡ z))
+  each e =
+      let r : c ≡ z = high (a + b * 256) (x + y * 256) c z (omega arith) (omega arith) e in
+      let q : b ≡ y = middle a x b y ha hx (omega arith) in
+      (omega arith, (q, r))
+
+  word-same : eqb (wordOf a b c) (wordOf x y z) ≡ (eqb a x && (eqb b y && eqb c z))
+  word-same = go (ℕ-discrete a x) (ℕ-discrete b y) (ℕ-discrete c z)
     where
-      not-three : (j : ℕ) → j < 28 → length (part 0 3 p) ≡ length (labelAt j) → ⊥
-      not-three j l e = let m = length-take 3 p in omega (arith, label-long j l)
+      go : Dec (a ≡ x) → Dec (b ≡ y) → Dec (c ≡ z) → eqb (wordOf a b c) (wordOf x y z) ≡ (eqb a x && (eqb b y && eqb c z))
+      go (yes p) (yes q) (yes r) =
+          rw (eq-eqb a x p, eq-eqb b y q, eq-eqb c z r) (eq-eqb (wordOf a b c) (wordOf x y z) (omega arith))
+      go (yes p) (yes q) (no r) =
+          rw (eq-eqb a x p, eq-eqb b y q, ne-eqb c z r) (ne-eqb (wordOf a b c) (wordOf x y z) (λ e. r (each e .1 .1)))
+      go (yes p) (no q) r = rw (eq-eqb a x p, ne-eqb b y q) (ne-eqb (wordOf a b c) (wordOf x y z) (λ e. q (each e .1 .0)))
+      go (no p) q r = rw (ne-eqb a x p) (ne-eqb (wordOf a b c) (wordOf x y z) (λ e. p (each e .0)))
 
-  tag-at : (k : ℕ) → k < 28 → isLabel (take 3 p) k ≡ true → At k ≡ tagOf p
-  tag-at k h t =
-      let e : labelAt k ≡ take 3 p = same-true (labelAt k) (take 3 (take 3 p)) t ∙ take-take 3 3 p (omega arith) in
-      sym (rw (e, take-append-drop 3 p) at (tag-of k h (drop 3 p)))
+-- each word is that of its label's letters, which are bytes: computed
+abbrev letter : ℕ → ℕ → ℕ
+letter k i = getD labels (3 * k + i) 0
 
-  module _ (next : ℕ) (o : Found) (s : Seeks (isLabel (take 3 p)) next 28 o) where
-    -- a hit from `next` on
-    pub tag-hit : (k : ℕ) → o ≡ At k → At k ≡ tagOf p
-    tag-hit k e = let t = rw e at s in tag-at k (t .0) (t .1)
+abbrev spelt : ℕ → Bool
+spelt k =
+    eqb (getD words k 0) (wordOf (letter k 0) (letter k 1) (letter k 2))
+    && (leb (letter k 0) 255 && (leb (letter k 1) 255 && leb (letter k 2) 255))
 
-    -- or what is found before it
-    pub tag-rest : o ≡ Nothing → next ≤ 28 → (r : Found) → Seeks (isLabel (take 3 p)) 0 next r → r ≡ tagOf p
-    unfolding tagOf
-    tag-rest e h (At k) t = tag-at k (omega arith) (t .1)
-    tag-rest e h Nothing t = sym (find-nowhere (isLabel p) 28 (λ j l. rw (take-take 3 3 p (omega arith)) at (go j l (decLt j next))))
-      where
-        go : (j : ℕ) → j < 28 → Dec (j < next) → isLabel (take 3 p) j ≡ false
-        go j l (yes m) = t j (omega arith) m
-        go j l (no m) = (rw e at s) j (omega arith) l
+all-spelt : find (λ k. not (spelt k)) 28 ≡ Nothing
+unfolding find
+all-spelt = refl
+
+-- so the test of a word is the test of a label
+module _ (p : List ℕ) (l : 3 ≤ length p) (low : (getD p 0 0 ≤ 255) × ((getD p 1 0 ≤ 255) × (getD p 2 0 ≤ 255))) where
+  abbrev word : ℕ
+  word = wordOf (getD p 0 0) (getD p 1 0) (getD p 2 0)
+
+  pub word-is : (k : ℕ) → k < 28 → isWord word k ≡ isLabel p k
+  word-is k h =
+      let same = eqb (getD words k 0) (wordOf (letter k 0) (letter k 1) (letter k 2)) in
+      let u = leb (letter k 0) 255 in
+      let v = leb (letter k 1) 255 in
+      let w = leb (letter k 2) 255 in
+      let t = not-false (spelt k) (find-none (λ k. not (spelt k)) 28 all-spelt k h) in
+      let bytes = and-right same (u && (v && w)) t in
+      let first = leb-true (letter k 0) 255 (and-left u (v && w) bytes) in
+      let second = leb-true (letter k 1) 255 (and-left v w (and-right u (v && w) bytes)) in
+      let third = leb-true (letter k 2) 255 (and-right v w (and-right u (v && w) bytes)) in
+      let is : getD words k 0 ≡ wordOf (letter k 0) (letter k 1) (letter k 2) =
+      eqb-true (getD words k 0) _ (and-left same (u && (v && w)) t) in
+      ap (λ (x : ℕ). eqb x word) is
+      ∙ word-same (letter k 0) (letter k 1) (letter k 2) (getD p 0 0) (getD p 1 0) (getD p 2 0) first second third (low .0) (low .1 .0)
+      (low .1 .1)
+      ∙ label k h
+    where
+      label : (k : ℕ) → k < 28
+          → (eqb (letter k 0) (getD p 0 0) && (eqb (letter k 1) (getD p 1 0) && eqb (letter k 2) (getD p 2 0))) ≡ isLabel p k
+      label k h =
+          let z : 3 * k + 0 ≡ 3 * k = omega arith in
+          rw (three-part labels (3 * k) (omega arith), three-part p 0 l, and-true, z) refl
+
+-- ---- the row of a pair is the one with its three letters, for no two labels are the same
+
+pub tag-short : (p : List ℕ) → length p < 3 → Nothing ≡ tagOf p
+unfolding tagOf
+tag-short p h = sym (find-nowhere (isLabel p) 28 (λ j l. sym (same-lengths (labelAt j) (part 0 3 p) (not-three j l))))
+  where
+    not-three : (j : ℕ) → j < 28 → length (part 0 3 p) ≡ length (labelAt j) → ⊥
+    not-three j l e = let m = length-take 3 p in omega (arith, label-long j l)
+
+module _ (p letters : List ℕ) (l : 3 ≤ length p) (e : letters ≡ words) (n : ℕ)
+    (w : (n ≡ wordOf (getD p 0 0) (getD p 1 0) (getD p 2 0)) × ((getD p 0 0 ≤ 255) × ((getD p 1 0 ≤ 255) × (getD p 2 0 ≤ 255)))) where
+  -- row k has them
+  pub tag-hit : (k : ℕ) → k < 28 → getD letters k 0 ≡ n → At k ≡ tagOf p
+  tag-hit k h q =
+      let t : isLabel p k ≡ true = sym (word-is p l (w .1) k h) ∙ eq-eqb (getD words k 0) (word p l (w .1)) (rw (e, w .0) at q) in
+      let f : labelAt k ≡ take 3 p = same-true (labelAt k) (take 3 p) t in
+      sym (rw (f, take-append-drop 3 p) at (tag-of k h (drop 3 p)))
+
+  -- or it is sought among all
+  pub tag-sought : (r : Found) → r ≡ find (isWord n) 28 → r ≡ tagOf p
+  unfolding tagOf
+  tag-sought r q = q ∙ rw (w .0) (find-same (isLabel p) (isWord (word p l (w .1))) 28 (word-is p l (w .1)))
 
 -- ---- one pair
 
@@ -233,26 +283,25 @@ pair-ready p w r = let z = sized-pair p w sized in (z .seen, (z .line, go (tag-i
     go (known k h e) = rw (took-known p w k e) (λ j i u. kept k h (valueIn p) j i u (ℕ-discrete j k))
 
 -- the pairs before i are taken: what is left makes of w what all of them make of the start
-pub record Walked (body : List ℕ) (start w : Draft) (next i : ℕ) : Type 0 where
+pub record Walked (body : List ℕ) (start w : Draft) (i : ℕ) : Type 0 where
   pub within : i ≤ length body
-  pub near : next ≤ 28
   pub ready : Ready w
   pub left : allTaken (pairsOf (drop i body)) w ≡ allTaken (pairsOf body) start
 
 module _ (body : List ℕ) (start : Draft) where
-  pub walked-none : Ready start → Walked body start start 0 0
-  walked-none r = record { within = omega arith; near = omega arith; ready = r; left = refl }
+  pub walked-none : Ready start → Walked body start start 0
+  walked-none r = record { within = omega arith; ready = r; left = refl }
 
-  module _ (w : Draft) (next i : ℕ) (u : Walked body start w next i) where
+  module _ (w : Draft) (i : ℕ) (u : Walked body start w i) where
     abbrev rest : List ℕ
     rest = take (length body - (i + 1)) (drop (i + 1) body)
 
     -- one more, which ends n bytes behind its `|`
     pub walked-more : i < length body → (n : ℕ) → (n ≡ runOf Unbarred rest) × (n ≤ length rest)
         → (t : Draft) → t ≡ pairTaken (take (i + 1 + n - (i + 1)) (drop (i + 1) body)) w
-        → (after : ℕ) → after ≤ 28 → Walked body start t after (i + 1 + n)
+        → Walked body start t (i + 1 + n)
     unfolding allTaken
-    walked-more h n r t e after m =
+    walked-more h n r t e =
         let s : List ℕ = drop (i + 1) body in
         let q : n ≡ runOf Unbarred s = r .0 ∙ ap (runOf Unbarred) (rest-is body (i + 1)) in
         let l = length-take (length body - (i + 1)) s in
@@ -261,7 +310,6 @@ module _ (body : List ℕ) (start : Draft) where
         let v = turn (λ (x : List ℕ). allTaken (pairsOf x) w) body i h (u .left) in
         record {
           within = omega arith;
-          near = m;
           ready = rw g (pair-ready (take n s) w (u .ready));
           left = rw (d, g, q) (sym (ap (λ (x : List (List ℕ)). allTaken x w) (parted-turn s)) ∙ v);
         }

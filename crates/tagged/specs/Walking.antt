@@ -1,20 +1,29 @@
 -- The walk over a text, beside what its definition says.
 -- Assumes nothing.
-use Prim.Native.Nat.{ℕ, _≤_, _<_}
+use Prim.Native.Nat.{ℕ, _+_, _*_, _<_}
 use mathlib.Core.Path.{_≡_}
-use mathlib.Core.List.{List}
+use mathlib.Core.List.{List, [], _∷_}
 use mathlib.Core.Bool.{Bool, true, false}
 use lib.Dec.{eqb}
 use lib.ListN.{getD}
 use Rattle.text.specs.Text.{blank}
-use Rattle.rules.specs.declared.Found.{Found}
-use Rattle.rules.specs.declared.Found.the-variants.{At, Nothing}
-use Rattle.tag_rules.specs.Tags.{tagCount, spanOf}
+use Rattle.tag_rules.specs.Tags.{labels, tagCount, spanOf}
 
--- one of the places from low to high that passes the test; nothing only where none does
-abbrev pub Seeks : (ℕ → Bool) → ℕ → ℕ → Found → Type 0
-Seeks p low high (At k) = (k < high) × (p k ≡ true)
-Seeks p low high Nothing = (j : ℕ) → low ≤ j → j < high → p j ≡ false
+-- three letters as one number, and those of each label
+abbrev pub wordOf : ℕ → ℕ → ℕ → ℕ
+wordOf a b c = a + b * 256 + c * 65536
+
+abbrev pub wordsOf : List ℕ → List ℕ
+wordsOf (a ∷ b ∷ c ∷ t) = wordOf a b c ∷ wordsOf t
+wordsOf [] = []
+wordsOf (a ∷ []) = []
+wordsOf (a ∷ b ∷ []) = []
+
+abbrev pub words : List ℕ
+words = wordsOf labels
+
+abbrev pub isWord : ℕ → ℕ → Bool
+isWord word k = eqb (getD words k 0) word
 
 -- where a label was not seen yet, its place is blank
 unfoldable pub Clear : List ℕ → List ℕ → Type 0

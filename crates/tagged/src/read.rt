@@ -3,19 +3,20 @@
 ghost use mathlib.Core.Path.{_≡_};
 ghost use mathlib.Core.Bool.{true, cond};
 ghost use mathlib.Core.List.{[], _∷_};
-ghost use Prim.Native.Nat.{_<_, _≤_};
+ghost use Prim.Native.Nat.{_+_, _≤_};
+ghost use lib.Dec.{ltb};
 ghost use lib.ListN.{length};
 ghost use Rattle.text.specs.Text.{blank, spaces};
-ghost use Rattle.rules.specs.Walks.{first};
-ghost use Rattle.tag_rules.specs.Tags.{labels, tags};
+ghost use Rattle.rules.specs.Walks.{find, first, onFound};
+ghost use Rattle.tag_rules.specs.Tags.{tags};
 ghost use Rattle.tag_rules.specs.Forms.{spread, fits, shaped};
-ghost use Rattle.tag_rules.specs.Reading.{isFramed, pairsOf, isLabel, tagOf, pairTaken, allTaken, nothingNoted, ReadsText};
-ghost use Rattle.tagged.specs.Walking.{Seeks, Clear};
+ghost use Rattle.tag_rules.specs.Reading.{isFramed, pairsOf, tagOf, pairTaken, allTaken, nothingNoted, ReadsText};
+ghost use Rattle.tagged.specs.Walking.{words, wordOf, isWord, Clear};
 use crate::form;
 use crate::table;
-use crate::table::LABELS;
 use crate::table::LETTERS;
 use crate::table::TAGS;
+use crate::table::WORDS;
 use layout::place;
 use rules::Found;
 use rules::refusing;
@@ -34,23 +35,21 @@ fn is_framed(s: &[u8]) -> bool
     (s[n - 1] == b'\n') & (text::same(&s[0..3], b"DAT") & ((n == 4) | (s[3] == b'|')))
 }
 
-// Whether three letters are label k.
-fn is_label(letters: &[u8], k: usize, label: &[u8]) -> bool
-    requires { ⌜ (now letters ≡ labels) × ((k < 28) × (length (now label) ≡ 3)) ⌝ }
-    ensures { λ r. ⌜ r ≡ isLabel (now (label .entry)) k ⌝ }
+// Three letters as one number.
+fn word_of(a: u8, b: u8, c: u8) -> u32
+    ensures { λ r. ⌜ (r ≡ wordOf a b c) × ((a ≤ 255) × ((b ≤ 255) × (c ≤ 255))) ⌝ }
 {
-    let i = LETTERS * k;
-    (letters[i] == label[0]) & ((letters[i + 1] == label[1]) & (letters[i + 2] == label[2]))
+    text::wide(a) + text::wide(b) * 256 + text::wide(c) * 65536
 }
 
-// The first of the rows from `low` to `high` that has these three letters.
-fn seek(letters: &[u8], label: &[u8], low: usize, high: usize) -> Found
-    requires { ⌜ (now letters ≡ labels) × ((length (now label) ≡ 3) × (high ≤ 28)) ⌝ }
-    ensures { λ r. ⌜ Seeks (isLabel (now (label .entry))) low high r ⌝ }
+// The row with these letters.
+fn seek(letters: &[u32], word: u32) -> Found
+    requires { ⌜ now letters ≡ words ⌝ }
+    ensures { λ r. ⌜ r ≡ find (isWord word) 28 ⌝ }
 {
-    let mut k = low;
-    while k < high {
-        if is_label(letters, k, label) {
+    let mut k: usize = 0;
+    while k < table::COUNT {
+        if letters[k] == word {
             return Found::At(k);
         }
         k += 1;
@@ -58,26 +57,27 @@ fn seek(letters: &[u8], label: &[u8], low: usize, high: usize) -> Found
     Found::Nothing
 }
 
-// The row of a pair's label, if the label is taken and not cut short. Most texts have their labels in the exhibit's order, so the rows
-// from `next` on are looked at first; no two rows have the same letters, so what is found is the same.
-fn find_tag(letters: &[u8], pair: &[u8], next: usize) -> Found
-    requires { ⌜ (now letters ≡ labels) × (next ≤ 28) ⌝ }
+// The row of a pair's label, if the label is taken and not cut short. Most texts have their labels in the exhibit's order, so the row
+// `next` is looked at first; no two rows have the same letters, so what is found is the same.
+fn find_tag(letters: &[u32], pair: &[u8], next: usize) -> Found
+    requires { ⌜ now letters ≡ words ⌝ }
     ensures { λ r. ⌜ r ≡ tagOf (now (pair .entry)) ⌝ }
 {
     if pair.len() < LETTERS {
         return Found::Nothing;
     }
-    let label = &pair[0..LETTERS];
-    let Found::At(k) = seek(letters, label, next, table::COUNT) else {
-        return seek(letters, label, 0, next);
-    };
-    Found::At(k)
+    let word = word_of(pair[0], pair[1], pair[2]);
+    if next < table::COUNT {
+        if letters[next] == word {
+            return Found::At(next);
+        }
+    }
+    seek(letters, word)
 }
 
-// Where the next label is looked for first.
+// Where the next label is looked for first: behind this one.
 fn next_of(tag: Found, next: usize) -> usize
-    requires { ⌜ next ≤ 28 ⌝ }
-    ensures { λ r. ⌜ r ≤ 28 ⌝ }
+    ensures { λ r. ⌜ r ≡ onFound tag next (λ k. cond (ltb k 28) (k + 1) next) ⌝ }
 {
     let Found::At(k) = tag else {
         return next;
@@ -145,7 +145,7 @@ fn take_pairs(body: &[u8], seen: &mut [u8], line: &mut [u8]) -> Notes
     requires { ⌜ (length (now seen) ≡ 28) × ((length (now line) ≡ 512) × Clear (now seen) (now line)) ⌝ }
     ensures { λ r. ⌜ record { notes = r; seen = now (seen .exit); line = now (line .exit) } ≡ allTaken (pairsOf (now (body .entry))) (record { notes = nothingNoted; seen = now (seen .entry); line = now (line .entry) }) ⌝ }
 {
-    let letters: &[u8] = &LABELS;
+    let letters: &[u32] = &WORDS;
     let places: &[u16] = &TAGS;
     let mut notes = Notes {
         unknown: false,

@@ -3,6 +3,7 @@
 ghost use mathlib.Core.Path.{_≡_};
 ghost use Prim.Native.Nat.{_<_};
 ghost use Rattle.tag_rules.specs.Tags.{labels, tags, spanAt, spanSize, formAt};
+ghost use Rattle.tagged.specs.Walking.{words};
 use layout::place;
 
 // The field without the spaces at its end.
@@ -24,11 +25,45 @@ pub const LETTERS: usize = 3;
 
 pub type Labels = [u8; 84];
 
+pub type Words = [u32; 28];
+
 // In small numbers: a function that names the table writes all of it to its stack.
 pub type Tags = [u16; 84];
 
 pub const LABELS: Labels =
     *b"FOCCPNHNOHNSPRDSTNSTSPODMCNSTALOCNAMCLSTYSEXCESNMTNORDCPDCOICPFZIPCUSCMTTARGU1CELSEC";
+
+// The letters of each label as one number, so that a label is compared at once.
+pub const WORDS: Words = [
+    LABELS[0] as u32 + LABELS[1] as u32 * 256 + LABELS[2] as u32 * 65536,
+    LABELS[3] as u32 + LABELS[4] as u32 * 256 + LABELS[5] as u32 * 65536,
+    LABELS[6] as u32 + LABELS[7] as u32 * 256 + LABELS[8] as u32 * 65536,
+    LABELS[9] as u32 + LABELS[10] as u32 * 256 + LABELS[11] as u32 * 65536,
+    LABELS[12] as u32 + LABELS[13] as u32 * 256 + LABELS[14] as u32 * 65536,
+    LABELS[15] as u32 + LABELS[16] as u32 * 256 + LABELS[17] as u32 * 65536,
+    LABELS[18] as u32 + LABELS[19] as u32 * 256 + LABELS[20] as u32 * 65536,
+    LABELS[21] as u32 + LABELS[22] as u32 * 256 + LABELS[23] as u32 * 65536,
+    LABELS[24] as u32 + LABELS[25] as u32 * 256 + LABELS[26] as u32 * 65536,
+    LABELS[27] as u32 + LABELS[28] as u32 * 256 + LABELS[29] as u32 * 65536,
+    LABELS[30] as u32 + LABELS[31] as u32 * 256 + LABELS[32] as u32 * 65536,
+    LABELS[33] as u32 + LABELS[34] as u32 * 256 + LABELS[35] as u32 * 65536,
+    LABELS[36] as u32 + LABELS[37] as u32 * 256 + LABELS[38] as u32 * 65536,
+    LABELS[39] as u32 + LABELS[40] as u32 * 256 + LABELS[41] as u32 * 65536,
+    LABELS[42] as u32 + LABELS[43] as u32 * 256 + LABELS[44] as u32 * 65536,
+    LABELS[45] as u32 + LABELS[46] as u32 * 256 + LABELS[47] as u32 * 65536,
+    LABELS[48] as u32 + LABELS[49] as u32 * 256 + LABELS[50] as u32 * 65536,
+    LABELS[51] as u32 + LABELS[52] as u32 * 256 + LABELS[53] as u32 * 65536,
+    LABELS[54] as u32 + LABELS[55] as u32 * 256 + LABELS[56] as u32 * 65536,
+    LABELS[57] as u32 + LABELS[58] as u32 * 256 + LABELS[59] as u32 * 65536,
+    LABELS[60] as u32 + LABELS[61] as u32 * 256 + LABELS[62] as u32 * 65536,
+    LABELS[63] as u32 + LABELS[64] as u32 * 256 + LABELS[65] as u32 * 65536,
+    LABELS[66] as u32 + LABELS[67] as u32 * 256 + LABELS[68] as u32 * 65536,
+    LABELS[69] as u32 + LABELS[70] as u32 * 256 + LABELS[71] as u32 * 65536,
+    LABELS[72] as u32 + LABELS[73] as u32 * 256 + LABELS[74] as u32 * 65536,
+    LABELS[75] as u32 + LABELS[76] as u32 * 256 + LABELS[77] as u32 * 65536,
+    LABELS[78] as u32 + LABELS[79] as u32 * 256 + LABELS[80] as u32 * 65536,
+    LABELS[81] as u32 + LABELS[82] as u32 * 256 + LABELS[83] as u32 * 65536,
+];
 
 pub const TAGS: Tags = [
     place::FUNCTION_AT as u16, // FOC
@@ -128,6 +163,12 @@ pub fn labels() -> Labels
     ensures { λ r. ⌜ r ≡ labels ⌝ }
 {
     LABELS
+}
+
+pub fn words() -> Words
+    ensures { λ r. ⌜ r ≡ words ⌝ }
+{
+    WORDS
 }
 
 pub fn tags() -> Tags

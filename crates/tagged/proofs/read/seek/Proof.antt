@@ -1,28 +1,40 @@
--- No row from low to k has the letters, and high - k falls: seeks-more is the turn, seeks-all the end.
+-- No row below k has the word, and 28 - k falls. A hit is the walk's answer by passed-hit, the end by passed-all.
 use Prim.Native.Nat.{_-_}
-use mathlib.Core.Path.{sym, _∙_}
+use mathlib.Core.Path.{ap}
+use lib.ListN.{getD}
 use borrow.Author.Needs.{needs}
-use Rattle.rules.specs.declared.Found.the-variants.{Nothing}
-use Rattle.tag_rules.specs.Reading.{isLabel}
-use Rattle.tagged.specs.Walking.{Seeks}
-use Rattle.tagged.proofs.ReadLaws.{seeks-none, seeks-more, seeks-all}
+use borrow.Author.Tests.{eq-eqb, ne-eqb}
+use Rattle.rules.specs.declared.Sought.{Sought}
+use Rattle.rules.proofs.WalkLaws.{Passed, passed-none, passed-more, passed-hit, passed-all}
+use Rattle.tagged.specs.Walking.{words, isWord}
+use Rattle.tagged.proofs.ReadLaws.{word-there}
 use Rattle.tagged.proofs.read.seek.Statement.{statement}
 use Rattle.tagged.proofs.read.seek.Tie as tie
 
 abbrev Inv-loop : tie.InvT-loop
-Inv-loop letters label low high k₀ k = Seeks (isLabel label) low k Nothing
+Inv-loop letters word k₀ k = Passed (isWord word) 28 k
 
 abbrev μ-loop : tie.MeasureT-loop
-μ-loop letters label low high k₀ k = high - k
+μ-loop letters word k₀ k = 28 - k
 
 loop-holds : tie.Need-loop-holds Inv-loop μ-loop
-loop-holds c = seeks-none (isLabel (c .before .before .args .label .now)) (c .before .before .args .low)
+loop-holds c = passed-none _ _
 
-is-label-requires : tie.Need-is-label-requires Inv-loop μ-loop
-is-label-requires c κs = search needs
+mul-if1 : tie.Need-mul-if1 Inv-loop μ-loop
+mul-if1 c = search needs
+
+shared-slice-read-if1 : tie.Need-shared-slice-read-if1 Inv-loop μ-loop
+shared-slice-read-if1 c =
+    let pre = c .before .before .before .pre in
+    word-there _ _ pre (c .before .loop-test .taken)
 
 returns : tie.Need-returns Inv-loop μ-loop
-returns c = (c .before .before .loop-test .taken, sym (c .before .is-label .ensures) ∙ c .if1 .taken)
+returns c =
+    let loop = c .before .before .before .loop in
+    let at-start = c .before .before .before .before in
+    let hit = eq-eqb (getD words (loop .k) 0) (at-start .args .word) (rw (at-start .pre) at (c .if1 .taken)) in
+    ap (λ (s : Sought). s .found)
+    (passed-hit (isWord (at-start .args .word)) 28 (loop .k) (loop .inv) (c .before .before .loop-test .taken) hit)
 
 add-k : tie.Need-add-k Inv-loop μ-loop
 add-k c = search needs
@@ -32,16 +44,16 @@ loop-less c = search needs
 
 loop-again : tie.Need-loop-again Inv-loop μ-loop
 loop-again c =
-    let at-loop = c .before .before .before in
-    let at-start = at-loop .before .before .before .args in
-    seeks-more (isLabel (at-start .label .now)) (at-start .low) (at-loop .loop .k) (at-loop .loop .inv)
-    (sym (c .before .is-label .ensures) ∙ c .if1 .left)
+    let loop = c .before .before .before .loop in
+    let at-start = c .before .before .before .before in
+    let not = ne-eqb (getD words (loop .k) 0) (at-start .args .word) (rw (at-start .pre) at (c .if1 .left)) in
+    passed-more (isWord (at-start .args .word)) 28 (loop .k) (loop .inv) (c .before .before .loop-test .taken) not
 
 returns-2 : tie.Need-returns-2 Inv-loop μ-loop
 returns-2 c =
-    let at-loop = c .before in
-    let at-start = at-loop .before .before .before .args in
-    seeks-all (isLabel (at-start .label .now)) (at-start .low) (at-loop .loop .k) (at-start .high) (at-loop .loop .inv) (c .loop-test .left)
+    let loop = c .before .loop in
+    let at-start = c .before .before in
+    ap (λ (s : Sought). s .found) (passed-all (isWord (at-start .args .word)) 28 (loop .k) (loop .inv) (c .loop-test .left))
 
 pub seek-spec : {M : Type 1} → statement M
 seek-spec =
@@ -50,7 +62,8 @@ seek-spec =
     Inv-loop
     μ-loop
     loop-holds
-    is-label-requires
+    mul-if1
+    shared-slice-read-if1
     returns
     add-k
     loop-less

@@ -11,7 +11,7 @@ use Rattle.tagged.proofs.read.take_pairs.Tie as tie
 
 abbrev Inv-loop : tie.InvT-loop
 Inv-loop body seen₀ line₀ letters places notes₀ next₀ i₀ seen line notes next i =
-    Walked body (record { notes = nothingNoted; seen = seen₀; line = line₀ }) (record { notes = notes; seen = seen; line = line }) next i
+    Walked body (record { notes = nothingNoted; seen = seen₀; line = line₀ }) (record { notes = notes; seen = seen; line = line }) i
 
 abbrev μ-loop : tie.MeasureT-loop
 μ-loop body seen₀ line₀ letters places notes₀ next₀ i₀ seen line notes next i = length body - i
@@ -57,7 +57,7 @@ part-find-tag-end : tie.Need-part-find-tag-end Inv-loop μ-loop
 part-find-tag-end c = search needs
 
 find-tag-requires : tie.Need-find-tag-requires Inv-loop μ-loop
-find-tag-requires c κs = (refl, c .before .before .before .before .loop .inv .near)
+find-tag-requires c κs = refl
 
 sub-take-pair : tie.Need-sub-take-pair Inv-loop μ-loop
 sub-take-pair c = search needs
@@ -75,9 +75,7 @@ take-pair-requires c κs =
     (refl, (find-tag .ensures, inv .ready))
 
 next-of-requires : tie.Need-next-of-requires Inv-loop μ-loop
-next-of-requires c κs =
-    let inv = c .before .before .before .before .before .before .before .before .before .before .before .before .before .loop .inv in
-    inv .near
+next-of-requires c κs = tt
 
 loop-less : tie.Need-loop-less Inv-loop μ-loop
 loop-less c = search needs
@@ -92,10 +90,10 @@ loop-again c =
     let at-loop = at-run .before .before .before in
     let at-start = at-loop .before .before .before .before .before .before .args in
     walked-more (at-start .body .now) (record { notes = nothingNoted; seen = at-start .seen .now; line = at-start .line .now })
-    (record { notes = at-loop .loop .notes; seen = at-loop .loop .seen; line = at-loop .loop .line }) (at-loop .loop .next)
-    (at-loop .loop .i) (at-loop .loop .inv) (loop-test .taken) (run .result) (run .ensures)
+    (record { notes = at-loop .loop .notes; seen = at-loop .loop .seen; line = at-loop .loop .line }) (at-loop .loop .i)
+    (at-loop .loop .inv) (loop-test .taken) (run .result) (run .ensures)
     (record { notes = take-pair .result; seen = take-pair .last .1 .1 .1 .1 .0; line = take-pair .last .1 .1 .1 .1 .1 .0 })
-    (take-pair .ensures) (c .next-of .result) (c .next-of .ensures)
+    (take-pair .ensures)
 
 same-length : tie.Need-same-length Inv-loop μ-loop
 same-length c =
@@ -112,8 +110,8 @@ returns c =
     let at-loop = c .before in
     let at-start = at-loop .before .before .before .before .before .before .args in
     walked-all (at-start .body .now) (record { notes = nothingNoted; seen = at-start .seen .now; line = at-start .line .now })
-    (record { notes = at-loop .loop .notes; seen = at-loop .loop .seen; line = at-loop .loop .line }) (at-loop .loop .next)
-    (at-loop .loop .i) (at-loop .loop .inv) (c .loop-test .left)
+    (record { notes = at-loop .loop .notes; seen = at-loop .loop .seen; line = at-loop .loop .line }) (at-loop .loop .i)
+    (at-loop .loop .inv) (c .loop-test .left)
 
 pub take-pairs-spec : {M : Type 1} → statement M
 take-pairs-spec =
