@@ -152,8 +152,6 @@ pub const RESERVED_SIZE: usize = RECORD[3 * table::RESERVED + 1];
 
 pub const RECORD_STAR_AT: usize = RECORD[3 * table::RECORD_STAR] - 1;
 
-pub const RECORD_STAR_SIZE: usize = RECORD[3 * table::RECORD_STAR + 1];
-
 // NPA and Calling Number are the number; Main NPA and Main Number, Zip and Zip+4, and X to Z lie one behind the other too; the street
 // fields lie in two spans.
 pub const NUMBER_SIZE: usize = CALLING_AT + CALLING_SIZE - NPA_AT;

@@ -3,9 +3,9 @@
 use mathlib.Core.Path.{_≡_, refl, sym, ap, _∙_}
 use mathlib.Core.Bool.{Bool, true, false, _&&_, not, cond}
 use mathlib.Core.List.{List, [], _∷_, _++_}
-use Prim.Native.Nat.{ℕ, _+_, _*_, _-_, _≤_, _<_}
-use native.Mathlib.Nat.{add-sub-cancel-left}
-use native.Mathlib.Decide.{ℕ-discrete, decLt}
+use Prim.Native.Nat.{ℕ, _+_, _*_, _-_, _/_, _≤_, _<_}
+use native.Mathlib.Nat.{zero-add, add-sub-cancel-left, div-eq-of-lt, add-mul-div-right}
+use native.Mathlib.Decide.{ℕ-discrete}
 use native.Mathlib.Omega.{arith}
 use lib.Dec.{leb, ltb, eqb}
 use lib.ListN.{length, take, drop, getD, set, take-append-drop, length-take, length-replicate}
@@ -39,7 +39,7 @@ use Rattle.tag_rules.proofs.TextAnswers.{line-long}
 use Rattle.tag_rules.proofs.Orders.{refusalBy, told, read-is}
 use Rattle.tagged.specs.declared.table.Place.{Place}
 use Rattle.tagged.specs.Walking.{wordOf, words, isWord, Clear}
-use Rattle.tagged.proofs.TextLaws.{rowOf, fieldOf, row-in, field-is}
+use Rattle.tagged.proofs.TextLaws.{rowOf, fieldOf, row-in, field-is, refusal}
 
 -- ---- labels
 
@@ -58,29 +58,19 @@ three-part s i h =
     ap (take 3)
     (left-at s i a ∙ ap (λ (x : List ℕ). getD s i 0 ∷ x) (left-at s (i + 1) b ∙ ap (λ (x : List ℕ). getD s (i + 1) 0 ∷ x) f))
 
--- numbers with a small rest are the same only if they are the same without it
-high : (r s m n : ℕ) → r ≤ 65535 → s ≤ 65535 → r + m * 65536 ≡ s + n * 65536 → m ≡ n
-high r s m n hr hs e = go (decLt m n) (decLt n m)
-  where
-    go : Dec (m < n) → Dec (n < m) → m ≡ n
-    go (yes p) q = absurd (omega arith)
-    go (no p) (yes q) = absurd (omega arith)
-    go (no p) (no q) = omega arith
+-- numbers with a rest below the base are the same only if they are the same without it
+without : (base r m : ℕ) → r < base → (r + m * base) / base ≡ m
+without base r m h = add-mul-div-right r m (omega arith) ∙ ap (λ (q : ℕ). q + m) (div-eq-of-lt h) ∙ zero-add m
 
-middle : (r s m n : ℕ) → r ≤ 255 → s ≤ 255 → r + m * 256 ≡ s + n * 256 → m ≡ n
-middle r s m n hr hs e = go (decLt m n) (decLt n m)
-  where
-    go : Dec (m < n) → Dec (n < m) → m ≡ n
-    go (yes p) q = absurd (omega arith)
-    go (no p) (yes q) = absurd (omega arith)
-    go (no p) (no q) = omega arith
+above : (base r s m n : ℕ) → r < base → s < base → r + m * base ≡ s + n * base → m ≡ n
+above base r s m n hr hs e = sym (without base r m hr) ∙ ap (λ (x : ℕ). x / base) e ∙ without base s n hs
 
 -- three bytes are the same as one number exactly if each is the same
 module _ (a b c x y z : ℕ) (ha : a ≤ 255) (hb : b ≤ 255) (hc : c ≤ 255) (hx : x ≤ 255) (hy : y ≤ 255) (hz : z ≤ 255) where
   each : wordOf a b c ≡ wordOf x y z → (a ≡ x) × ((b ≡ y) × (c ≡ z))
   each e =
-      let r : c ≡ z = high (a + b * 256) (x + y * 256) c z (omega arith) (omega arith) e in
-      let q : b ≡ y = middle a x b y ha hx (omega arith) in
+      let r : c ≡ z = above 65536 (a + b * 256) (x + y * 256) c z (omega arith) (omega arith) e in
+      let q : b ≡ y = above 256 a x b y (omega arith) (omega arith) (omega arith) in
       (omega arith, (q, r))
 
   word-same : eqb (wordOf a b c) (wordOf x y z) ≡ (eqb a x && (eqb b y && eqb c z))
@@ -328,9 +318,6 @@ none-written = refl
 pub blank-clear : Clear noneSeen blankLine
 unfolding Clear
 blank-clear k h u = not-false (blank (spanOf k blankLine)) (find-none (λ k. not (blank (spanOf k blankLine))) 28 none-written k h)
-
-abbrev refusal : ℕ → ℕ → Tagged
-refusal n position = record { refusal = n; position = position; bytes = 0 }
 
 module _ (s out : List ℕ) (b : Bool) (e : b ≡ isFramed s) where
   pub frame-refused : (t : Tagged) → not b ≡ true → t ≡ refusal 33 0 → ReadsText s out t out

@@ -126,7 +126,8 @@ module _ (r old t u : List ℕ) (m n : ℕ) (l : length r ≡ 512) (o : length o
 pub text-fits : (r : List ℕ) (n : ℕ) → length r ≡ 512 → n ≡ 0 + length (taggedOf r) → n ≤ 452
 text-fits r n l m = omega (arith, text-most r l)
 
-abbrev refusal : ℕ → ℕ → Tagged
+-- what a refusal tells, of a text that is read too
+abbrev pub refusal : ℕ → ℕ → Tagged
 refusal n position = record { refusal = n; position = position; bytes = 0 }
 
 module _ (r out : List ℕ) where

@@ -12,17 +12,11 @@ use crate::table::CALENDAR_DATE;
 use crate::table::PLAIN;
 use crate::table::POSTAL;
 use crate::table::TEN;
+use layout::place;
 use text::Class;
 
 // The longest value that is not plain has as many bytes.
 const LONGEST: usize = 10;
-
-// Zip, and Zip+4 behind it.
-const FIVE: usize = 5;
-
-const FOUR: usize = 4;
-
-const NINE: usize = FIVE + FOUR;
 
 // Where a value of CCYY-MM-DD has its bytes.
 const YEAR_AT: usize = 2;
@@ -49,8 +43,13 @@ pub fn spread(form: usize, v: &[u8], span: &mut [u8])
         return;
     }
     if form == POSTAL {
-        text::put(&mut span[..], 0, text::part_of(v, 0, FIVE));
-        text::put(&mut span[..], FIVE, text::part_of(v, FIVE + 1, FOUR));
+        // Zip, and Zip+4 behind it; between them the value has one byte more.
+        text::put(&mut span[..], 0, text::part_of(v, 0, place::ZIP_SIZE));
+        text::put(
+            &mut span[..],
+            place::ZIP_SIZE,
+            text::part_of(v, place::ZIP_SIZE + 1, place::ZIP_4_SIZE),
+        );
         return;
     }
     text::put(&mut span[..], 0, v);
@@ -61,8 +60,8 @@ fn is_filled(form: usize, f: &[u8]) -> bool
     ensures { λ r. ⌜ r ≡ filled form (now (f .entry)) ⌝ }
 {
     if form == POSTAL {
-        let four = text::part_of(f, FIVE, FOUR);
-        return text::all_in(text::part_of(f, 0, FIVE), Class::Digit)
+        let four = text::part_of(f, place::ZIP_SIZE, place::ZIP_4_SIZE);
+        return text::all_in(text::part_of(f, 0, place::ZIP_SIZE), Class::Digit)
             & (text::is_blank(four) | text::all_in(four, Class::Digit));
     }
     text::all_in(f, Class::Digit)
@@ -109,8 +108,8 @@ fn put_postal(f: &[u8], out: &mut [u8], at: usize) -> usize
     requires { ⌜ (length (now f) ≡ 9) × (at + 10 ≤ length (now out)) ⌝ }
     ensures { λ r. ⌜ Appends (now (out .entry)) at (worded postal (now (f .entry))) r (now (out .exit)) ⌝ }
 {
-    let end = append(&mut out[..], at, &f[0..FIVE]);
-    let four = &f[FIVE..NINE];
+    let end = append(&mut out[..], at, &f[0..place::ZIP_SIZE]);
+    let four = &f[place::ZIP_SIZE..place::ZIP_BOTH_SIZE];
     if text::is_blank(four) {
         return end;
     }

@@ -52,9 +52,10 @@ part-result-end c = search needs
 
 returns : tie.Need-returns Inv-loop μ-loop
 returns c =
-    let loop = c .before .before .before .before .loop in
-    let f = c .before .before .before .before .before .args .f in
     let test = c .before .before .before .loop-test .taken in
+    let at-loop = c .before .before .before .before in
+    let loop = at-loop .loop in
+    let f = at-loop .before .args .f in
     simp unary-clauses (trim-end (f .now) (loop .n) (loop .inv .0) (loop .inv .1) test (c .before .if1 .left))
 
 sub-result-2 : tie.Need-sub-result-2 Inv-loop μ-loop
@@ -68,9 +69,11 @@ part-result-end-2 c = search needs
 
 returns-2 : tie.Need-returns-2 Inv-loop μ-loop
 returns-2 c =
-    let loop = c .before .before .loop in
+    let at-loop = c .before .before in
+    let loop = at-loop .loop in
+    let f = at-loop .before .args .f .now in
     let z : loop .n ≡ 0 = omega arith in
-    trim-none (c .before .before .before .args .f .now) (rw z at (loop .inv .1))
+    trim-none f (rw z at (loop .inv .1))
 
 pub trimmed-spec : {M : Type 1} → statement M
 trimmed-spec =

@@ -30,11 +30,13 @@ shared-slice-read-if3 c =
 
 returns-2 : tie.Need-returns-2
 returns-2 c =
-    let word-of = c .before .before .before .word-of in
-    let long = c .before .before .before .before .before .before .before .if1 .left in
-    let at-start = c .before .before .before .before .before .before .before .before .before .before in
+    let at-if2 = c .before .before in
+    let word-of = at-if2 .before .word-of in
+    let at-if1 = at-if2 .before .before .before .before .before in
+    let long = at-if1 .if1 .left in
+    let at-start = at-if1 .before .before .before in
     tag-hit (at-start .args .pair .now) (at-start .args .letters .now) long (at-start .pre) (word-of .result) (word-of .ensures)
-    (at-start .args .next) (c .before .before .if2 .taken) (c .if3 .taken)
+    (at-start .args .next) (at-if2 .if2 .taken) (c .if3 .taken)
 
 seek-requires : tie.Need-seek-requires
 seek-requires c κs = search needs
@@ -42,8 +44,9 @@ seek-requires c κs = search needs
 returns-3 : tie.Need-returns-3
 returns-3 c =
     let word-of = c .before .before .word-of in
-    let long = c .before .before .before .before .before .before .if1 .left in
-    let at-start = c .before .before .before .before .before .before .before .before .before in
+    let at-if1 = c .before .before .before .before .before .before in
+    let long = at-if1 .if1 .left in
+    let at-start = at-if1 .before .before .before in
     tag-sought (at-start .args .pair .now) (at-start .args .letters .now) long (at-start .pre) (word-of .result) (word-of .ensures)
     (c .seek .result) (c .seek .ensures)
 

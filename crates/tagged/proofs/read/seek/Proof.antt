@@ -30,11 +30,13 @@ shared-slice-read-if1 c =
 
 returns : tie.Need-returns Inv-loop μ-loop
 returns c =
-    let loop = c .before .before .before .loop in
-    let at-start = c .before .before .before .before in
-    let hit = eq-eqb (getD words (loop .k) 0) (at-start .args .word) (rw (at-start .pre) at (c .if1 .taken)) in
-    ap (λ (s : Sought). s .found)
-    (passed-hit (isWord (at-start .args .word)) 28 (loop .k) (loop .inv) (c .before .before .loop-test .taken) hit)
+    let loop-test = c .before .before .loop-test in
+    let at-loop = c .before .before .before in
+    let loop = at-loop .loop in
+    let at-start = at-loop .before in
+    let word = at-start .args .word in
+    let hit = eq-eqb (getD words (loop .k) 0) word (rw (at-start .pre) at (c .if1 .taken)) in
+    ap (λ (s : Sought). s .found) (passed-hit (isWord word) 28 (loop .k) (loop .inv) (loop-test .taken) hit)
 
 add-k : tie.Need-add-k Inv-loop μ-loop
 add-k c = search needs
@@ -44,15 +46,19 @@ loop-less c = search needs
 
 loop-again : tie.Need-loop-again Inv-loop μ-loop
 loop-again c =
-    let loop = c .before .before .before .loop in
-    let at-start = c .before .before .before .before in
-    let not = ne-eqb (getD words (loop .k) 0) (at-start .args .word) (rw (at-start .pre) at (c .if1 .left)) in
-    passed-more (isWord (at-start .args .word)) 28 (loop .k) (loop .inv) (c .before .before .loop-test .taken) not
+    let loop-test = c .before .before .loop-test in
+    let at-loop = c .before .before .before in
+    let loop = at-loop .loop in
+    let at-start = at-loop .before in
+    let word = at-start .args .word in
+    let not = ne-eqb (getD words (loop .k) 0) word (rw (at-start .pre) at (c .if1 .left)) in
+    passed-more (isWord word) 28 (loop .k) (loop .inv) (loop-test .taken) not
 
 returns-2 : tie.Need-returns-2 Inv-loop μ-loop
 returns-2 c =
-    let loop = c .before .loop in
-    let at-start = c .before .before in
+    let at-loop = c .before in
+    let loop = at-loop .loop in
+    let at-start = at-loop .before in
     ap (λ (s : Sought). s .found) (passed-all (isWord (at-start .args .word)) 28 (loop .k) (loop .inv) (c .loop-test .left))
 
 pub seek-spec : {M : Type 1} → statement M
