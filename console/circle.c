@@ -256,18 +256,15 @@ static uint32_t two_digits(const uint8_t *text)
 
 /*
  * The day number of MMDDYY, 010170 being day 0: YY 70 to 99 is 19YY, 00 to 69 is 20YY. From 1970 to 2069 every fourth
- * year has a leap day, the first of them 1972, and these are the years whose YY has no remainder by 4.
+ * year has a leap day, the first of them 1972, and these are the years whose YY has no remainder by 4. The days before
+ * a month are worked out as if February had 30, of which it is one or two short.
  */
 static uint32_t day_number(const uint8_t *date)
 {
-    static const uint32_t LENGTHS[] = {31, 28, 31, 30, 31, 30, 31, 31, 30, 31, 30, 31};
     const uint32_t month = two_digits(date), day = two_digits(date + 2), year = two_digits(date + 4);
     const uint32_t years = year >= 70 ? year - 70 : year + 30; /* since 1970 */
-    uint32_t number = years * 365 + (years + 1) / 4 + day - 1;
-    for (uint32_t i = 0; i + 1 < month; i++) {
-        number += LENGTHS[i];
-    }
-    return month > 2 && year % 4 == 0 ? number + 1 : number;
+    const uint32_t short_by = month <= 2 ? 0 : year % 4 == 0 ? 1 : 2;
+    return years * 365 + (years + 1) / 4 + (367 * month - 362) / 12 - short_by + day - 1;
 }
 
 /* The day number in bytes 1 to 4 of a slot, high byte first. */

@@ -356,4 +356,18 @@ $said"
     fi
 done
 
+# ---- The constants -----------------------------------------------------------------------------------------------
+
+# What the compilers make of the programs beside the libraries holds no table of months either.
+built=(console.plain circle.plain delivery.plain stack)
+if [ -x circle.clang ]; then built+=(console.clang circle.clang delivery.clang); fi
+said=$("$root/tools/constants" "${built[@]}" 2>&1)
+for program in "${built[@]}"; do
+    if line=$(grep -Ex "ok $program: [0-9]+ bytes of constants, no table of months" <<<"$said"); then
+        ok "${line#ok }"
+    else
+        fail "$program: no table of months" "$said"
+    fi
+done
+
 finish

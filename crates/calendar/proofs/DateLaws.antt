@@ -8,7 +8,7 @@ use mathlib.Core.Bool.{Bool, true, false, _&&_, cond}
 use Prim.Native.Nat.{ℕ, _+_, _*_, _-_, _/_, _%_, _≤_}
 use native.Mathlib.Omega.{arith}
 use lib.Dec.{leb, eqb}
-use lib.ListN.{length, getD}
+use lib.ListN.{length}
 use borrow.Author.Tests.{eqb-true, eqb-false, leb-true, leb-false, le-leb, lt-leb}
 use Rattle.text.specs.declared.Spelled.{Spelled}
 use Rattle.text.specs.declared.Spelled.the-variants.{Number, NoNumber}
@@ -19,24 +19,13 @@ use Rattle.calendar.specs.declared.Date.{Date}
 use Rattle.calendar.specs.declared.Date.the-variants.{Day as aDay, NoDate}
 use Rattle.calendar.specs.declared.Reading.{Reading}
 use Rattle.calendar.specs.declared.Reading.the-variants.{Present, Former}
-use Rattle.calendar.specs.Calendar.{months, leap, monthDays, isDay, dayNumber, dayFrom, dated, dayOf, onDay, noLater}
+use Rattle.calendar.specs.Calendar.{leap, monthDays, isDay, dayNumber, dayFrom, dated, dayOf, onDay, noLater}
 use Rattle.calendar.specs.Former.{formerNumber, formerFrom, formerOf, dayBy, formerly}
-use Rattle.calendar.proofs.DayLaws.{month-most}
+use Rattle.calendar.proofs.DayLaws.{OfMonth, day-most}
 
 -- ---- a day of the calendar
 
--- a month has at most 31 days
-month-days : (m y : ℕ) → monthDays m y ≤ 31
-month-days m y = go (eqb m 2 && leap y)
-  where
-    go : (b : Bool) → cond b 29 (getD months (m - 1) 0) ≤ 31
-    go true = omega arith
-    go false = month-most (m - 1)
-
--- what the formulas need of the three numbers; day_number asks for the same
-abbrev pub OfMonth : ℕ → ℕ → ℕ → Type 0
-OfMonth m d y = (1 ≤ m) × (m ≤ 12) × (1 ≤ d) × (d ≤ 31) × (y ≤ 99)
-
+-- the three numbers of a day are as the formulas need them
 of-month : (m d y : ℕ) → isDay m d y ≡ true → OfMonth m d y
 of-month m d y e =
     let ty = leb y 99 in
@@ -47,11 +36,12 @@ of-month m d y e =
     let v = and-right ty (tm && (tn && (td && te))) e in
     let w = and-right tm (tn && (td && te)) v in
     let x = and-right tn (td && te) w in
-    let k = leb-true d (monthDays m y) (and-right td te x) in (
-      leb-true 1 m (and-left tm (tn && (td && te)) v),
-      leb-true m 12 (and-left tn (td && te) w),
+    let a = leb-true 1 m (and-left tm (tn && (td && te)) v) in
+    let b = leb-true m 12 (and-left tn (td && te) w) in (
+      a,
+      b,
       leb-true 1 d (and-left td te x),
-      omega (arith, month-days m y),
+      day-most m d y a b (and-right td te x),
       leb-true y 99 (and-left ty (tm && (tn && (td && te))) e),
     )
 

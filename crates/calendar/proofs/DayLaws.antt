@@ -1,7 +1,7 @@
--- The formula and the table of month lengths agree in every month of the years 00 to 99; a month has at most 31 days; days passed,
--- counted by a sum or by a difference; the four bytes of a day read back as that day. Assumes nothing.
+-- The days before a month and the table of month lengths agree in every month of the years 00 to 99, by one computed test (month-is), and
+-- so does the formula (number-by, next-month, next-year); a month has 28 to 31 days; days passed, counted by a sum or by a difference; the
+-- four bytes of a day read back as that day. Assumes nothing.
 use mathlib.Core.Path.{_≡_, refl, _∙_, sym, ap}
-use mathlib.Core.List.{List, [], _∷_}
 use mathlib.Core.Bool.{Bool, true, false, _&&_, cond}
 use Prim.Native.Nat.{ℕ, zero, suc, _+_, _*_, _-_, _/_, _%_, _≤_, _<_}
 use native.Mathlib.Nat.{div-div-eq-div-mul, div-add-mod', mod-eq-of-lt}
@@ -10,7 +10,7 @@ use lib.Dec.{leb, eqb}
 use lib.ListN.{getD}
 use borrow.Author.Tests.{eqb-true, eqb-false, ne-eqb, leb-true, leb-false, le-leb, lt-leb}
 use Rattle.text.proofs.Laws.{and-left, and-right}
-use Rattle.calendar.specs.Calendar.{dayNumber, monthDays, months, storedDay}
+use Rattle.calendar.specs.Calendar.{months, leap, monthDays, daysBefore, yearsOf, dayNumber, storedDay}
 
 -- a test holds at every number below n
 abbrev pub every : (ℕ → Bool) → ℕ → Bool
@@ -26,53 +26,87 @@ every-at p zero k e h = absurd (omega arith)
 every-at p (suc n) k e h =
     every-more p n k (eqb k n) refl (and-left (p n) (every p n) e) (every-at p n k (and-right (p n) (every p n) e)) h
 
--- ---- the formula and the table
+-- ---- the arithmetic and the table
 
--- from the first of month k + 1 to the first of the next
-abbrev followsIn : ℕ → ℕ → Bool
-followsIn y k = eqb (dayNumber (k + 2) 1 y) (dayNumber (k + 1) 1 y + monthDays (k + 1) y)
+-- from the first of month k + 1 to the first of the next, or to the end of the year
+abbrev hasLength : ℕ → ℕ → Bool
+hasLength y k = eqb (daysBefore (k + 2) y) (daysBefore (k + 1) y + monthDays (k + 1) y)
 
--- from the first of December to the first of January; the year after 99 is 00, and behind the last, 69, day 36525 would come
-abbrev followsYear : ℕ → Bool
-followsYear y = eqb (cond (eqb y 69) 36525 (dayNumber 1 1 ((y + 1) % 100))) (dayNumber 12 1 y + monthDays 12 y)
+abbrev hasLengths : ℕ → Bool
+hasLengths y = every (hasLength y) 12
 
-abbrev agrees : ℕ → Bool
-agrees y = every (followsIn y) 11 && followsYear y
+lengths : every hasLengths 100 ≡ true
+lengths = refl
 
-agree : every agrees 100 ≡ true
-agree = refl
-
--- the first of the next month is so many days later as the table says that this month has
-pub next-month : (m y : ℕ) → 1 ≤ m → m ≤ 11 → y ≤ 99 → dayNumber (m + 1) 1 y ≡ dayNumber m 1 y + monthDays m y
-next-month m y a b c =
-    let h : m - 1 < 11 = omega arith in
+-- 2026-04, "No answer differs": a month ends so many days after its first as the table says that it has
+pub month-is : (m y : ℕ) → 1 ≤ m → m ≤ 12 → y ≤ 99 → daysBefore (m + 1) y ≡ daysBefore m y + monthDays m y
+month-is m y a b c =
+    let h : m - 1 < 12 = omega arith in
     let k : y < 100 = omega arith in
     let e : m - 1 + 1 ≡ m = omega arith in
     let f : m - 1 + 2 ≡ m + 1 = omega arith in
     rw (e, f) at
-    (eqb-true (dayNumber (m - 1 + 2) 1 y) (dayNumber (m - 1 + 1) 1 y + monthDays (m - 1 + 1) y)
-    (every-at (followsIn y) 11 (m - 1) (and-left (every (followsIn y) 11) (followsYear y) (every-at agrees 100 y agree k)) h))
+    (eqb-true (daysBefore (m - 1 + 2) y) (daysBefore (m - 1 + 1) y + monthDays (m - 1 + 1) y)
+    (every-at (hasLength y) 12 (m - 1) (every-at hasLengths 100 y lengths k) h))
 
--- and the first of January so many days after the first of December
+-- ---- the formula and the table
+
+-- what the formulas need of the three numbers; day_number asks for the same
+abbrev pub OfMonth : ℕ → ℕ → ℕ → Type 0
+OfMonth m d y = (1 ≤ m) × (m ≤ 12) × (1 ≤ d) × (d ≤ 31) × (y ≤ 99)
+
+-- the formula takes its correction off the sum of years and months: as well off the months alone
+pub number-by : (m d y : ℕ) → OfMonth m d y → 365 * yearsOf y + (yearsOf y + 1) / 4 + daysBefore m y + d - 1 ≡ dayNumber m d y
+number-by m d y o = go (365 * yearsOf y + (yearsOf y + 1) / 4) (leb m 2) refl (leap y)
+  where
+    go : (n : ℕ) (p : Bool) → leb m 2 ≡ p → (q : Bool)
+        → n + ((367 * m - 362) / 12 - cond p 0 (cond q 1 2)) + d - 1 ≡ n + (367 * m - 362) / 12 - cond p 0 (cond q 1 2) + d - 1
+    go n true e q = omega arith
+    go n false e true = let l = leb-false m 2 e in omega arith
+    go n false e false = let l = leb-false m 2 e in omega arith
+
+-- the first of the next month is so many days later as the table says that this month has
+pub next-month : (m y : ℕ) → 1 ≤ m → m ≤ 11 → y ≤ 99 → dayNumber (m + 1) 1 y ≡ dayNumber m 1 y + monthDays m y
+next-month m y a b c =
+    rw (
+      ← number-by (m + 1) 1 y (omega arith, omega arith, omega arith, omega arith, c),
+      ← number-by m 1 y (a, omega arith, omega arith, omega arith, c),
+      month-is m y a (omega arith) c,
+    )
+    (go (365 * yearsOf y + (yearsOf y + 1) / 4) (daysBefore m y) (monthDays m y))
+  where
+    go : (n b l : ℕ) → n + (b + l) + 1 - 1 ≡ n + b + 1 - 1 + l
+    go n b l = omega arith
+
+-- and the first of January so many days after the first of December; the year after 99 is 00, and behind the last, 69, day 36525 would come
+abbrev followsYear : ℕ → Bool
+followsYear y = eqb (cond (eqb y 69) 36525 (dayNumber 1 1 ((y + 1) % 100))) (dayNumber 12 1 y + monthDays 12 y)
+
+years : every followsYear 100 ≡ true
+years = refl
+
 pub next-year : (y : ℕ) → y ≤ 99 → (y ≡ 69 → ⊥) → dayNumber 1 1 ((y + 1) % 100) ≡ dayNumber 12 1 y + monthDays 12 y
 next-year y c n =
-    let k : y < 100 = omega arith in
-    let e = and-right (every (followsIn y) 11) (followsYear y) (every-at agrees 100 y agree k) in
+    let e = every-at followsYear 100 y years (omega arith) in
     eqb-true (dayNumber 1 1 ((y + 1) % 100)) (dayNumber 12 1 y + monthDays 12 y) (rw (ne-eqb y 69 n) at e)
 
--- ---- the longest month
+-- ---- the shortest and the longest month
 
-abbrev allUpTo : ℕ → List ℕ → Bool
-allUpTo n [] = true
-allUpTo n (a ∷ s) = leb a n && allUpTo n s
+abbrev isMonthLong : ℕ → Bool
+isMonthLong n = leb 28 n && leb n 31
 
-up-to-at : (n : ℕ) (s : List ℕ) (k : ℕ) → allUpTo n s ≡ true → getD s k 0 ≤ n
-up-to-at n [] k e = omega arith
-up-to-at n (a ∷ s) zero e = leb-true a n (and-left (leb a n) (allUpTo n s) e)
-up-to-at n (a ∷ s) (suc k) e = up-to-at n s k (and-right (leb a n) (allUpTo n s) e)
+pub month-size : (m y : ℕ) → 1 ≤ m → m ≤ 12 → (28 ≤ monthDays m y) × (monthDays m y ≤ 31)
+month-size m y a b =
+    let all = every-at (λ k. isMonthLong (getD months k 0)) 12 (m - 1) refl (omega arith) in
+    go (getD months (m - 1) 0) all (eqb m 2 && leap y)
+  where
+    go : (n : ℕ) → isMonthLong n ≡ true → (b : Bool) → (28 ≤ cond b 29 n) × (cond b 29 n ≤ 31)
+    go n e true = (omega arith, omega arith)
+    go n e false = (leb-true 28 n (and-left (leb 28 n) (leb n 31) e), leb-true n 31 (and-right (leb 28 n) (leb n 31) e))
 
-pub month-most : (k : ℕ) → getD months k 0 ≤ 31
-month-most k = up-to-at 31 months k refl
+-- so a day that a month has is at most its 31st
+pub day-most : (m d y : ℕ) → 1 ≤ m → m ≤ 12 → leb d (monthDays m y) ≡ true → d ≤ 31
+day-most m d y a b e = let k = leb-true d (monthDays m y) e in omega (arith, month-size m y a b .1)
 
 -- ---- days passed
 

@@ -10,7 +10,7 @@ use Rattle.calendar.specs.declared.Day.{Day}
 use Rattle.calendar.specs.declared.Date.{Date}
 use Rattle.calendar.specs.declared.Date.the-variants.{Day as aDay, NoDate}
 
--- "the lengths of the twelve months stand in a constant table"
+-- "the lengths of the twelve months stand in a constant table": since 2026-04 here alone; the code works them out, DayLaws `month-is`
 abbrev pub months : List ℕ
 months = 31 ∷ 28 ∷ 31 ∷ 30 ∷ 31 ∷ 30 ∷ 31 ∷ 31 ∷ 30 ∷ 31 ∷ 30 ∷ 31 ∷ []
 
@@ -20,6 +20,11 @@ leap y = eqb (y % 4) 0
 
 abbrev pub monthDays : ℕ → ℕ → ℕ
 monthDays m y = cond (eqb m 2 && leap y) 29 (getD months (m - 1) 0)
+
+-- 2026-04, "Work out the days before a month by arithmetic": 367 over the twelve months as if February had 30, of which it is one or two
+-- short; month 13 is the end of the year
+abbrev pub daysBefore : ℕ → ℕ → ℕ
+daysBefore m y = (367 * m - 362) / 12 - cond (leb m 2) 0 (cond (leap y) 1 2)
 
 -- "real calendar days": month, day, and the year's last two digits
 abbrev pub isDay : ℕ → ℕ → ℕ → Bool

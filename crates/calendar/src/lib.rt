@@ -3,7 +3,8 @@
 ghost use mathlib.Core.Path.{_≡_};
 ghost use mathlib.Core.Bool.{true};
 ghost use Prim.Native.Nat.{_≤_};
-ghost use Rattle.calendar.specs.Calendar.{leap, monthDays, yearsOf, dayNumber, dayFrom, dayOf, noLater};
+ghost use lib.Dec.{leb};
+ghost use Rattle.calendar.specs.Calendar.{leap, monthDays, daysBefore, yearsOf, dayNumber, dayFrom, dayOf, noLater};
 ghost use Rattle.calendar.specs.Calendar.{storedDay, dayBytes, isBefore, isPast, onCalendar};
 ghost use Rattle.calendar.specs.Former.{dayBy, formerly, anew};
 use text::Spelled;
@@ -26,8 +27,8 @@ pub enum Reading {
     Former,
 }
 
-// The lengths of the twelve months, in a year that is no leap year.
-const MONTHS: [u32; 12] = [31, 28, 31, 30, 31, 30, 31, 31, 30, 31, 30, 31];
+// Every month has so many days.
+const SHORTEST: u32 = 28;
 
 // 123169.
 const LAST: u32 = 36524;
@@ -54,17 +55,39 @@ fn is_leap(y: u32) -> bool
     y % 4 == 0
 }
 
+// The days of the year before month m: 367 over the twelve months as if February had 30, of which it is one or two short. Month 13 is the
+// end of the year.
+fn days_before(m: u32, y: u32) -> u32
+    requires { ⌜ (1 ≤ m) × (m ≤ 13) ⌝ }
+    ensures { λ r. ⌜ (r ≡ daysBefore m y) × (r ≤ 366) ⌝ }
+{
+    let whole = (367 * m - 362) / 12;
+    if m <= 2 {
+        return whole;
+    }
+    if is_leap(y) {
+        return whole - 1;
+    }
+    whole - 2
+}
+
+// A month goes to the first of the next: no table of lengths takes up constant space.
 fn month_days(m: u32, y: u32) -> u32
-    requires { ⌜ (1 ≤ m) × (m ≤ 12) ⌝ }
+    requires { ⌜ (1 ≤ m) × (m ≤ 12) × (y ≤ 99) ⌝ }
     ensures { λ r. ⌜ (r ≡ monthDays m y) × (r ≤ 31) ⌝ }
 {
-    let k = (m - 1) as usize;
-    if m == 2 {
-        if is_leap(y) {
-            return 29;
-        }
+    days_before(m + 1, y) - days_before(m, y)
+}
+
+// Whether the month has such a day: its length is worked out only for a day that not every month has.
+fn has_day(m: u32, d: u32, y: u32) -> bool
+    requires { ⌜ (1 ≤ m) × (m ≤ 12) × (y ≤ 99) ⌝ }
+    ensures { λ r. ⌜ r ≡ leb d (monthDays m y) ⌝ }
+{
+    if d <= SHORTEST {
+        return true;
     }
-    MONTHS[k]
+    d <= month_days(m, y)
 }
 
 // The years since 1970.
@@ -83,15 +106,7 @@ fn day_number(m: u32, d: u32, y: u32) -> u32
     ensures { λ r. ⌜ (r ≡ dayNumber m d y) × (r ≤ 36524) ⌝ }
 {
     let z = years_of(y);
-    let years = 365 * z + (z + 1) / 4;
-    let months = (367 * m - 362) / 12;
-    if m <= 2 {
-        return years + months + d - 1;
-    }
-    if is_leap(y) {
-        return years + months - 1 + d - 1;
-    }
-    years + months - 2 + d - 1
+    365 * z + (z + 1) / 4 + days_before(m, y) + d - 1
 }
 
 fn day_from(m: u32, d: u32, y: u32) -> Date
@@ -109,7 +124,7 @@ fn day_from(m: u32, d: u32, y: u32) -> Date
     if d < 1 {
         return Date::NoDate;
     }
-    if month_days(m, y) < d {
+    if !has_day(m, d, y) {
         return Date::NoDate;
     }
     Date::Day(Day(day_number(m, d, y)))
