@@ -1,7 +1,8 @@
 /*
- * circle: an example of the whole circle, from a guide file and data files through a load file back to a register; of a
- * tagged record (Version 3.1) that is read, framed and taken, and written back as the same text; and of converting a
- * register that was written before, when days counted from 010100.
+ * circle: an example of the whole circle, from a guide file and data files through a load file back to a register,
+ * each file checked and then applied; of a file that is checked in the evening and refused in the morning; of a tagged
+ * record (Version 3.1) that is read, framed and taken, and written back as the same text; and of converting a register
+ * that was written before, when days counted from 010100.
  *
  *   circle            runs the circle and tells each step
  *   circle REGISTER   also writes the register to the file REGISTER, for `console` to look at
@@ -67,6 +68,19 @@ static const struct entry LATE[] = {
     {"C", "5035550103", "OLDCO", "101426", "42", "MAIN", "ST", "83", HAKKIYOLU_ANSWER_NUMBER_OPEN},
 };
 
+static const struct heading EVENING_HEADING = {"101826", "NEWCO TELEPHONE", "4"};
+
+/*
+ * The second company would take over the other unlocked number. Its file is checked in the evening, but before the
+ * morning the first company's comes, of the same cycle.
+ */
+static const struct entry EVENING[] = {
+    {"M", "5035550103", "NEWCO", "101726", "40", "MAIN", "ST", "83", HAKKIYOLU_ANSWER_DONE},
+};
+
+/* No answer has this number, so an answer byte that holds it was not written to. */
+enum { UNANSWERED = 0x77 };
+
 static const struct heading TAGGED_HEADING = {"101826", "OLDCO TELEPHONE", "4"};
 
 /*
@@ -77,7 +91,8 @@ static const char TEXT[] =
     "DAT|FOCI|CPN5035550105|HNO44|STNMAIN|STSST|MCNMILLBROOK|STAOR|CLS1|TYS0|ESN83|CPD2026-10-16|CPFOLDCO\n";
 static const char TEXT_NUMBER[] = "5035550105";
 
-/* The dispatch centre has taken no file yet, so the load file is its cycle 1. */
+/* A load file is a data file. The dispatch centre has applied none yet, so it is cycle 1 there. */
+static const struct kind LOAD_FILE = {"load file", HAKKIYOLU_RECORD_BYTES, check_data, apply_data};
 static const struct heading LOAD_HEADING = {"102026", "REGISTER OFFICE", "1"};
 enum { LOAD_CYCLE = 1 };
 
@@ -88,7 +103,7 @@ enum { LOAD_CYCLE = 1 };
  */
 enum { OLD_FIRST_DAY = 10957, OLD_LATE_DAY = 25568, LATE_SLOT = 2 };
 
-/* ---- Taking data files ----------------------------------------------------------------------------------------- */
+/* ---- Data files ------------------------------------------------------------------------------------------------ */
 
 static void write_record(uint8_t *line, const struct entry *entry)
 {
@@ -106,22 +121,27 @@ static void write_record(uint8_t *line, const struct entry *entry)
     put(line, RECORD_COMPANY, entry->company);
 }
 
+/* The entries as one data file. */
+static struct file frame_entries(const struct heading *heading, const struct entry *entries, size_t count)
+{
+    const struct file file = frame(&DATA_FILE, heading, count);
+    for (size_t i = 0; i < count; i++) {
+        write_record(line_at(&file, i), &entries[i]);
+    }
+    return file;
+}
+
 static bool take_entries(struct office *office, const struct heading *heading, const struct entry *entries,
     size_t count)
 {
-    struct lent file = frame(heading, HAKKIYOLU_RECORD_BYTES, count);
-    struct lent answers = lend(count);
-    for (size_t i = 0; i < count; i++) {
-        write_record(line_at(&file, HAKKIYOLU_RECORD_BYTES, i), &entries[i]);
-    }
-    const struct hakkiyolu_taken taken = take_file(office, heading, &file, &answers);
-    bool good = taken.refusal == HAKKIYOLU_NOT_REFUSED;
+    const struct file file = frame_entries(heading, entries, count);
+    struct hakkiyolu_taken taken;
+    bool good = take_file(office, &file, &taken);
     for (size_t i = 0; i < taken.records; i++) {
         printf("  %s %s of %s", entries[i].function, entries[i].number, entries[i].company);
-        good = tell_due(answers.bytes[i], entries[i].answer) && good;
+        good = tell_due(file.answers.bytes[i], entries[i].answer) && good;
     }
-    free(answers.bytes);
-    free(file.bytes);
+    free_file(&file);
     return good;
 }
 
@@ -180,31 +200,28 @@ static bool write_text(const uint8_t *record, uint32_t due)
 }
 
 /* Takes a data file of one record that came tagged, which must be done. */
-static bool take_record(struct office *office, const struct lent *file)
+static bool take_record(struct office *office, const struct file *file)
 {
-    const uint8_t *record = line_at(file, HAKKIYOLU_RECORD_BYTES, 0);
-    struct lent answers = lend(1);
-    const struct hakkiyolu_taken taken = take_file(office, &TAGGED_HEADING, file, &answers);
-    bool good = taken.records == 1;
-    if (good) {
-        printf(" ");
-        print_part(record, RECORD_FUNCTION);
-        print_part(record, RECORD_NUMBER);
-        printf(" of");
-        print_part(record, RECORD_COMPANY);
-        good = tell_due(answers.bytes[0], HAKKIYOLU_ANSWER_DONE);
+    const uint8_t *record = line_at(file, 0);
+    struct hakkiyolu_taken taken;
+    if (!take_file(office, file, &taken) || taken.records != 1) {
+        return false;
     }
-    free(answers.bytes);
-    return good;
+    printf(" ");
+    print_part(record, RECORD_FUNCTION);
+    print_part(record, RECORD_NUMBER);
+    printf(" of");
+    print_part(record, RECORD_COMPANY);
+    return tell_due(file->answers.bytes[0], HAKKIYOLU_ANSWER_DONE);
 }
 
 /* Reads the text into its place in a data file of one record, and takes that. */
 static bool take_text(struct office *office)
 {
     struct lent text = lend_copy(TEXT, strlen(TEXT));
-    struct lent file = frame(&TAGGED_HEADING, HAKKIYOLU_RECORD_BYTES, 1);
-    const struct hakkiyolu_tagged read = hakkiyolu_read_tagged(
-        text.bytes, text.length, line_at(&file, HAKKIYOLU_RECORD_BYTES, 0), HAKKIYOLU_RECORD_BYTES);
+    const struct file file = frame(&DATA_FILE, &TAGGED_HEADING, 1);
+    const struct hakkiyolu_tagged read =
+        hakkiyolu_read_tagged(text.bytes, text.length, line_at(&file, 0), HAKKIYOLU_RECORD_BYTES);
     bool good = read.refusal == HAKKIYOLU_NOT_REFUSED;
     if (good) {
         printf("tagged record of %zu bytes: read\n", text.length);
@@ -212,7 +229,7 @@ static bool take_text(struct office *office)
     } else {
         printf("tagged record: refused (%u), position %u\n", (unsigned)read.refusal, (unsigned)read.position);
     }
-    free(file.bytes);
+    free_file(&file);
     free(text.bytes);
     return good;
 }
@@ -232,18 +249,53 @@ static bool text_and_back(struct office *office)
  * A record of the load file has no tagged form, for its Source is `C`. In a copy that is cleared, and the last entry,
  * the one that came tagged, is its text again.
  */
-static bool load_to_text(const struct lent *load, uint32_t entries)
+static bool load_to_text(const struct file *load, uint32_t entries)
 {
     if (entries == 0) {
         return false;
     }
-    struct lent record = lend_copy(line_at(load, HAKKIYOLU_RECORD_BYTES, entries - 1), HAKKIYOLU_RECORD_BYTES);
+    struct lent record = lend_copy(line_at(load, entries - 1), HAKKIYOLU_RECORD_BYTES);
     printf("%s in the load file, written tagged: ", TEXT_NUMBER);
     bool good = write_text(record.bytes, HAKKIYOLU_REFUSED_NO_TEXT);
     put(record.bytes, RECORD_SOURCE, " ");
     printf("%s with Source cleared, written tagged: ", TEXT_NUMBER);
     good = write_text(record.bytes, HAKKIYOLU_NOT_REFUSED) && good;
     free(record.bytes);
+    return good;
+}
+
+/* ---- Evening and morning --------------------------------------------------------------------------------------- */
+
+/* Applies the file that was checked in the evening: it must be refused for its cycle, and no byte may change. */
+static bool apply_in_morning(struct office *office, const struct file *file)
+{
+    memset(file->answers.bytes, UNANSWERED, file->answers.length);
+    struct lent reg = lend_copy(office->reg.bytes, office->reg.length);
+    struct lent answers = lend_copy(file->answers.bytes, file->answers.length);
+    const struct hakkiyolu_taken applied = apply_file(office, file);
+    const bool kept = memcmp(office->reg.bytes, reg.bytes, reg.length) == 0
+        && memcmp(file->answers.bytes, answers.bytes, answers.length) == 0;
+    const bool good = applied.refusal == HAKKIYOLU_REFUSED_CYCLE && kept;
+    printf("its cycle went to the other file since the check; register and answers are %s",
+        kept ? "unchanged" : "changed");
+    printf(good ? "\n" : " -- NOT AS EXPECTED\n");
+    free(answers.bytes);
+    free(reg.bytes);
+    return good;
+}
+
+/* A check is no permit for the morning: here another file gets the cycle in between, and applying tests again. */
+static bool evening_and_morning(struct office *office)
+{
+    const struct file file = frame_entries(&EVENING_HEADING, EVENING, COUNT(EVENING));
+    printf("in the evening a file is checked, to be applied in the morning:\n");
+    const struct hakkiyolu_taken checked = check_file(office, &file);
+    bool good = checked.refusal == HAKKIYOLU_NOT_REFUSED && checked.last == office->last_data;
+    printf("before the morning another file of that cycle comes, and is taken:\n");
+    good = text_and_back(office) && good;
+    printf("in the morning the file that was checked is applied:\n");
+    good = apply_in_morning(office, &file) && good;
+    free_file(&file);
     return good;
 }
 
@@ -327,39 +379,37 @@ static bool compare(const struct lent *before, const struct lent *after)
     return good && rest_free;
 }
 
-/* Takes the load file into an empty register under the same guide, where no file was taken before, and compares. */
-static bool take_back(const struct office *office, const struct lent *load, uint32_t entries)
+/* Takes the load file into an empty register under the same guide, where no file was applied before, and compares. */
+static bool take_back(const struct office *office, const struct file *load, uint32_t entries)
 {
-    struct lent back = lend(office->reg.length);
-    struct lent answers = lend(SLOTS);
-    const struct hakkiyolu_taken taken = hakkiyolu_take_data(back.bytes, back.length, office->guide.bytes,
-        office->guide.length, load->bytes, load->length, answers.bytes, answers.length, NONE_YET);
-    const bool good = tell_taken("load file", &LOAD_HEADING, &taken) && taken.done == entries && taken.undone == 0
-        && compare(&office->reg, &back);
-    free(answers.bytes);
-    free(back.bytes);
+    struct office centre = {lend(office->reg.length), office->guide, NONE_YET, NONE_YET};
+    struct hakkiyolu_taken taken;
+    const bool good = take_file(&centre, load, &taken) && taken.done == entries && taken.undone == 0
+        && compare(&office->reg, &centre.reg);
+    free(centre.reg.bytes);
     return good;
 }
 
 /* Writes the load file and takes it back. */
 static bool load_and_back(const struct office *office)
 {
-    struct lent out = lend(HAKKIYOLU_DATA_FILE_BYTES(SLOTS));
+    struct file load = {&LOAD_FILE, &LOAD_HEADING, lend(HAKKIYOLU_DATA_FILE_BYTES(SLOTS)), lend(SLOTS)};
     uint8_t name[HAKKIYOLU_NAME_BYTES];
     memset(name, ' ', sizeof name);
     memcpy(name, LOAD_HEADING.name, strlen(LOAD_HEADING.name));
     const struct hakkiyolu_loaded loaded = hakkiyolu_write_load(office->reg.bytes, office->reg.length,
-        (const uint8_t *)LOAD_HEADING.date, HAKKIYOLU_DATE_BYTES, name, sizeof name, LOAD_CYCLE, out.bytes, out.length);
+        (const uint8_t *)LOAD_HEADING.date, HAKKIYOLU_DATE_BYTES, name, sizeof name, LOAD_CYCLE, load.whole.bytes,
+        load.whole.length);
     bool good = loaded.refusal == HAKKIYOLU_NOT_REFUSED;
     if (good) {
         printf("load file written: %u entries, %u bytes\n", (unsigned)loaded.entries, (unsigned)loaded.bytes);
-        const struct lent load = {out.bytes, loaded.bytes};
+        load.whole.length = loaded.bytes;
         good = take_back(office, &load, loaded.entries);
         good = load_to_text(&load, loaded.entries) && good;
     } else {
         printf("load file refused (%u)\n", (unsigned)loaded.refusal);
     }
-    free(out.bytes);
+    free_file(&load);
     return good;
 }
 
@@ -430,7 +480,7 @@ static bool run_circle(struct office *office)
     good = show_street(&office->reg, "5035550100", "NEWCO") && good;
     good = take_entries(office, &LATE_HEADING, LATE, COUNT(LATE)) && good;
     good = show_street(&office->reg, "5035550100", "NEWCO") && good;
-    good = text_and_back(office) && good;
+    good = evening_and_morning(office) && good;
     good = load_and_back(office) && good;
     good = convert_old(&office->reg) && good;
     good = convert_late(&office->reg) && good;

@@ -1,12 +1,13 @@
 /*
- * delivery: an example of the way from a tagged delivery (Version 3.1) to a taken file.
+ * delivery: an example of the way from a tagged delivery (Version 3.1) to a file that is checked and applied.
  *
- *   delivery DELIVERY            reads the lines of the file DELIVERY, takes what is good, and tells each line
+ *   delivery DELIVERY            reads the lines of the file DELIVERY, applies what is good, and tells each line
  *   delivery DELIVERY REGISTER   also writes the register to the file REGISTER, for `console` to look at
  *
  * A line is the bytes up to and with each newline, 0a hex; bytes behind the last newline are a last line without one.
- * Each line that is read becomes a record of a data file, which is taken into a register of 4096 slots, empty at first,
- * under the guide below. A data file has at most 9999 records, so a longer delivery becomes several, one cycle each.
+ * Each line that is read becomes a record of a data file, which is checked, and then applied to a register of 4096
+ * slots, empty at first, under the guide below. A data file has at most 9999 records, so a longer delivery becomes
+ * several, one cycle each.
  *
  * Exit status: 0 every line was read and done, 1 a line was refused or turned away, 2 bad usage, 3 no memory, a file
  * cannot be read or written, or the output cannot be written.
@@ -268,25 +269,24 @@ static bool read_line(const struct line *line, struct batch *batch)
     return true;
 }
 
-/* Takes the batch as the next data file, and empties it; false if a record was turned away. */
+/* Takes the batch as the next data file, and empties it; false if it was refused, or a record was turned away. */
 static bool take_batch(struct office *office, struct batch *batch)
 {
     char cycle[sizeof "4294967295"];
     snprintf(cycle, sizeof cycle, "%u", (unsigned)(office->last_data % HAKKIYOLU_CYCLE_MOST + 1));
     const struct heading heading = {"111526", "ALPHA TELEPHONE", cycle};
-    struct lent file = frame(&heading, HAKKIYOLU_RECORD_BYTES, batch->count);
-    struct lent answers = lend(batch->count);
-    memcpy(line_at(&file, HAKKIYOLU_RECORD_BYTES, 0), batch->records.bytes, HAKKIYOLU_RECORD_BYTES * batch->count);
-    const struct hakkiyolu_taken taken = take_file(office, &heading, &file, &answers);
+    const struct file file = frame(&DATA_FILE, &heading, batch->count);
+    struct hakkiyolu_taken taken;
+    memcpy(line_at(&file, 0), batch->records.bytes, HAKKIYOLU_RECORD_BYTES * batch->count);
+    bool good = take_file(office, &file, &taken);
     for (size_t i = 0; i < taken.records; i++) {
         printf("line %zu", batch->lines[i]);
-        tell_answer(answers.bytes[i]);
+        tell_answer(file.answers.bytes[i]);
         printf("\n");
     }
-    const bool good = taken.done == batch->count;
+    good = taken.done == batch->count && good;
     batch->count = 0;
-    free(answers.bytes);
-    free(file.bytes);
+    free_file(&file);
     return good;
 }
 

@@ -1,5 +1,6 @@
 /*
- * frames.h: what the examples circle and delivery share: to frame a file, to take it, and to tell what became of it.
+ * frames.h: what the examples circle and delivery share: to frame a file, to check it and apply it, and to tell what
+ * became of it.
  *
  * How a file is framed. It has a header of 200 bytes, lines of one length (512 bytes for a data record, 200 for a guide
  * row) and a trailer of 200 bytes, with nothing between them. Each of these begins as spaces and ends in `*`; a field's
@@ -20,7 +21,7 @@
 /* How the examples end; what is good, and what is not, each says for itself. */
 enum status { GOOD = 0, NOT_GOOD = 1, BAD_USAGE = 2, NO_ROOM = 3 };
 
-/* The last cycle where no file was taken before. */
+/* The last cycle where no file was applied before. */
 enum { NONE_YET = 0 };
 
 /* A part of a line, by its first and last position, counted from 1 as the description counts them. */
@@ -66,6 +67,23 @@ struct lent {
 struct office {
     struct lent reg, guide;
     uint32_t last_data, last_guide;
+};
+
+struct file;
+
+/* A kind of file: what it is called, the length of its lines, and its two calls on what an office keeps. */
+struct kind {
+    const char *name;
+    size_t line_length;
+    struct hakkiyolu_taken (*check)(const struct office *office, const struct file *file);
+    struct hakkiyolu_taken (*apply)(struct office *office, const struct file *file);
+};
+
+/* A file: its kind, what its header says, all its bytes, and a byte for the answer to each of its lines. */
+struct file {
+    const struct kind *kind;
+    const struct heading *heading;
+    struct lent whole, answers;
 };
 
 #define COUNT(list) (sizeof(list) / sizeof((list)[0]))
@@ -136,21 +154,28 @@ static void write_trailer(uint8_t *line, const struct heading *heading, size_t c
 }
 
 /* Line i, from 0, of a file. */
-static uint8_t *line_at(const struct lent *file, size_t line_length, size_t i)
+static uint8_t *line_at(const struct file *file, size_t i)
 {
-    return file->bytes + HAKKIYOLU_HEADER_BYTES + line_length * i;
+    return file->whole.bytes + HAKKIYOLU_HEADER_BYTES + file->kind->line_length * i;
 }
 
 /* A file with so many empty lines between its header and its trailer. */
-static struct lent frame(const struct heading *heading, size_t line_length, size_t count)
+static struct file frame(const struct kind *kind, const struct heading *heading, size_t count)
 {
-    struct lent file = lend(HAKKIYOLU_HEADER_BYTES + line_length * count + HAKKIYOLU_TRAILER_BYTES);
-    write_header(file.bytes, heading);
+    const size_t length = HAKKIYOLU_HEADER_BYTES + kind->line_length * count + HAKKIYOLU_TRAILER_BYTES;
+    const struct file file = {kind, heading, lend(length), lend(count)};
+    write_header(file.whole.bytes, heading);
     for (size_t i = 0; i < count; i++) {
-        clear(line_at(&file, line_length, i), line_length);
+        clear(line_at(&file, i), kind->line_length);
     }
-    write_trailer(line_at(&file, line_length, count), heading, count);
+    write_trailer(line_at(&file, count), heading, count);
     return file;
+}
+
+static void free_file(const struct file *file)
+{
+    free(file->answers.bytes);
+    free(file->whole.bytes);
 }
 
 static void write_row(uint8_t *line, const struct row *row)
@@ -216,20 +241,93 @@ static bool tell_due(unsigned answer, unsigned due)
     return answer == due;
 }
 
-/* Tells what became of a file; false if it was refused. */
-static bool tell_taken(const char *kind, const struct heading *heading, const struct hakkiyolu_taken *taken)
+/* Begins the line of a file that was checked or applied. If it was refused, ends it with that; false then. */
+static bool tell_file(const struct file *file, const struct hakkiyolu_taken *taken)
 {
-    if (taken->refusal != HAKKIYOLU_NOT_REFUSED) {
-        printf("%s of %s, cycle %s: refused (%u), record %u, position %u\n", kind, heading->name, heading->cycle,
-            (unsigned)taken->refusal, (unsigned)taken->place, (unsigned)taken->position);
-        return false;
+    printf("%s of %s, cycle %s: ", file->kind->name, file->heading->name, file->heading->cycle);
+    if (taken->refusal == HAKKIYOLU_NOT_REFUSED) {
+        return true;
     }
-    printf("%s of %s, cycle %s: %u done, %u not done\n", kind, heading->name, heading->cycle,
-        (unsigned)taken->done, (unsigned)taken->undone);
-    return true;
+    printf("refused (%u), record %u, position %u\n", (unsigned)taken->refusal, (unsigned)taken->place,
+        (unsigned)taken->position);
+    return false;
 }
 
-/* ---- Taking files ---------------------------------------------------------------------------------------------- */
+/* ---- Checking and applying ------------------------------------------------------------------------------------- */
+
+static struct hakkiyolu_taken check_data(const struct office *office, const struct file *file)
+{
+    return hakkiyolu_check_data(office->reg.bytes, office->reg.length, office->guide.bytes, office->guide.length,
+        file->whole.bytes, file->whole.length, file->answers.bytes, file->answers.length, office->last_data);
+}
+
+/* Applying alone moves the last cycle on: after a check that did, the file itself would be refused by 6. */
+static struct hakkiyolu_taken apply_data(struct office *office, const struct file *file)
+{
+    const struct hakkiyolu_taken applied = hakkiyolu_apply_data(office->reg.bytes, office->reg.length,
+        office->guide.bytes, office->guide.length, file->whole.bytes, file->whole.length, file->answers.bytes,
+        file->answers.length, office->last_data);
+    office->last_data = applied.last;
+    return applied;
+}
+
+static struct hakkiyolu_taken check_guide(const struct office *office, const struct file *file)
+{
+    return hakkiyolu_check_guide(office->reg.bytes, office->reg.length, office->guide.bytes, office->guide.length,
+        file->whole.bytes, file->whole.length, file->answers.bytes, file->answers.length, office->last_guide);
+}
+
+static struct hakkiyolu_taken apply_guide(struct office *office, const struct file *file)
+{
+    const struct hakkiyolu_taken applied = hakkiyolu_apply_guide(office->reg.bytes, office->reg.length,
+        office->guide.bytes, office->guide.length, file->whole.bytes, file->whole.length, file->answers.bytes,
+        file->answers.length, office->last_guide);
+    office->last_guide = applied.last;
+    return applied;
+}
+
+static const struct kind DATA_FILE = {"data file", HAKKIYOLU_RECORD_BYTES, check_data, apply_data},
+                         GUIDE_FILE = {"guide file", HAKKIYOLU_ROW_BYTES, check_guide, apply_guide};
+
+/* Checks the file and tells it: nothing is changed, and applying tests again. */
+static struct hakkiyolu_taken check_file(const struct office *office, const struct file *file)
+{
+    const struct hakkiyolu_taken checked = file->kind->check(office, file);
+    if (tell_file(file, &checked)) {
+        printf("checked, %u record%s\n", (unsigned)checked.records, checked.records == 1 ? "" : "s");
+    }
+    return checked;
+}
+
+/* Applies the file and tells it; the caller tells its answers. */
+static struct hakkiyolu_taken apply_file(struct office *office, const struct file *file)
+{
+    const struct hakkiyolu_taken applied = file->kind->apply(office, file);
+    if (tell_file(file, &applied)) {
+        printf("%u done, %u not done\n", (unsigned)applied.done, (unsigned)applied.undone);
+    }
+    return applied;
+}
+
+/*
+ * Takes the file: checks it and, if it is good, applies it at once. False if it was refused, or if the two calls do not
+ * tell the same number of records. What the later of them returned is left in `taken`.
+ */
+static bool take_file(struct office *office, const struct file *file, struct hakkiyolu_taken *taken)
+{
+    const struct hakkiyolu_taken checked = check_file(office, file);
+    *taken = checked;
+    if (checked.refusal != HAKKIYOLU_NOT_REFUSED) {
+        return false;
+    }
+    *taken = apply_file(office, file);
+    if (taken->records != checked.records) {
+        printf("  records checked: %u, applied: %u -- NOT AS EXPECTED\n", (unsigned)checked.records,
+            (unsigned)taken->records);
+        return false;
+    }
+    return taken->refusal == HAKKIYOLU_NOT_REFUSED;
+}
 
 /* Directionals are mostly blank, and then no gap is left for them. */
 static void print_row(const struct row *row)
@@ -245,35 +343,18 @@ static void print_row(const struct row *row)
 /* Takes the rows as one guide file; false if it was refused, or a row was not answered as is due. */
 static bool take_rows(struct office *office, const struct heading *heading, const struct row *rows, size_t count)
 {
-    struct lent file = frame(heading, HAKKIYOLU_ROW_BYTES, count);
-    struct lent answers = lend(count);
+    const struct file file = frame(&GUIDE_FILE, heading, count);
+    struct hakkiyolu_taken taken;
     for (size_t i = 0; i < count; i++) {
-        write_row(line_at(&file, HAKKIYOLU_ROW_BYTES, i), &rows[i]);
+        write_row(line_at(&file, i), &rows[i]);
     }
-    const struct hakkiyolu_taken taken = hakkiyolu_take_guide(office->reg.bytes, office->reg.length,
-        office->guide.bytes, office->guide.length, file.bytes, file.length, answers.bytes, answers.length,
-        office->last_guide);
-    office->last_guide = taken.last;
-    bool good = tell_taken("guide file", heading, &taken);
+    bool good = take_file(office, &file, &taken);
     for (size_t i = 0; i < taken.records; i++) {
         print_row(&rows[i]);
-        good = tell_due(answers.bytes[i], rows[i].answer) && good;
+        good = tell_due(file.answers.bytes[i], rows[i].answer) && good;
     }
-    free(answers.bytes);
-    free(file.bytes);
+    free_file(&file);
     return good;
-}
-
-/* Takes the data file, keeps its cycle for the next, and tells what became of it; the caller tells its answers. */
-static struct hakkiyolu_taken take_file(struct office *office, const struct heading *heading, const struct lent *file,
-    const struct lent *answers)
-{
-    const struct hakkiyolu_taken taken = hakkiyolu_take_data(office->reg.bytes, office->reg.length,
-        office->guide.bytes, office->guide.length, file->bytes, file->length, answers->bytes, answers->length,
-        office->last_data);
-    office->last_data = taken.last;
-    tell_taken("data file", heading, &taken);
-    return taken;
 }
 
 /* ---- Ending ---------------------------------------------------------------------------------------------------- */

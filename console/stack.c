@@ -44,9 +44,9 @@ enum { OLD_FIRST_DAY = 10957, OLD_LAST_DAY = 25567, LAST_DAY = 36524 };
 enum { TEXT_BYTES = HAKKIYOLU_TAGGED_BYTES - 2, TAR_AT = 350, ZIP_END_AT = 275 };
 
 /*
- * A call on a file, a number, a register, a text or a record, and what is due of it: lines done or the fault's
- * position; entries; slots looked at; the day in the last slot, or the refusal and the slot added up; bytes written, or
- * the refusal and the position added up.
+ * A call on a file, a number, a register, a text or a record, and what is due of it: lines checked, lines done, or the
+ * fault's position; entries; slots looked at; the day in the last slot, or the refusal and the slot added up; bytes
+ * written, or the refusal and the position added up.
  */
 struct call {
     const char *name;
@@ -66,7 +66,7 @@ static char rows[HAKKIYOLU_GUIDE_FILE_BYTES(ROWS) + 1], bad_rows[sizeof rows],
     records[HAKKIYOLU_DATA_FILE_BYTES(RECORDS) + 1], first_records[sizeof records], bad_records[sizeof records];
 static uint32_t answered;
 
-/* The rows and the first records fill the stores; the rows are then taken again, and the records with a new number. */
+/* The rows and the first records fill the stores; the rows then come again, and the records with a new number. */
 static void write_files(void)
 {
     snprintf(rows, sizeof rows, FRAME ROW ROW ROW FRAME, FRAME_OF("UHL", "1"), ROW_OF("I", "100", "198", "E"),
@@ -83,18 +83,32 @@ static void write_files(void)
     bad_rows[sizeof rows - 1 - HAKKIYOLU_TRAILER_BYTES - 1] = ' ';
 }
 
-static uint32_t take_guide(const void *file)
+static uint32_t check_data(const void *file)
 {
-    const struct hakkiyolu_taken taken = hakkiyolu_take_guide(
-        reg, sizeof reg, guide, sizeof guide, file, sizeof rows - 1, answers, sizeof answers, 0);
-    return taken.done + taken.position;
+    const struct hakkiyolu_taken checked = hakkiyolu_check_data(
+        reg, sizeof reg, guide, sizeof guide, file, sizeof records - 1, answers, sizeof answers, 0);
+    return checked.records + checked.position;
 }
 
-static uint32_t take_data(const void *file)
+static uint32_t apply_data(const void *file)
 {
-    const struct hakkiyolu_taken taken = hakkiyolu_take_data(
+    const struct hakkiyolu_taken applied = hakkiyolu_apply_data(
         reg, sizeof reg, guide, sizeof guide, file, sizeof records - 1, answers, sizeof answers, 0);
-    return taken.done + taken.position;
+    return applied.done + applied.position;
+}
+
+static uint32_t check_guide(const void *file)
+{
+    const struct hakkiyolu_taken checked = hakkiyolu_check_guide(
+        reg, sizeof reg, guide, sizeof guide, file, sizeof rows - 1, answers, sizeof answers, 0);
+    return checked.records + checked.position;
+}
+
+static uint32_t apply_guide(const void *file)
+{
+    const struct hakkiyolu_taken applied = hakkiyolu_apply_guide(
+        reg, sizeof reg, guide, sizeof guide, file, sizeof rows - 1, answers, sizeof answers, 0);
+    return applied.done + applied.position;
 }
 
 /* The stores as each call finds them, sound and not empty; a conversion gets a register of its own. */
@@ -102,8 +116,8 @@ static void fill_stores(void)
 {
     memset(reg, 0, sizeof reg);
     memset(guide, 0, sizeof guide);
-    take_guide(rows);
-    take_data(first_records);
+    apply_guide(rows);
+    apply_data(first_records);
 }
 
 /* The day number in bytes 1 to 4 of a slot, high byte first. */
@@ -225,8 +239,12 @@ int main(void)
 {
     struct call none = {"nothing", nothing, NULL, 0};
     struct call calls[] = {
-        {"take_data", take_data, records, 3}, {"take_data_refused", take_data, bad_records, HAKKIYOLU_RECORD_BYTES},
-        {"take_guide", take_guide, rows, 2}, {"take_guide_refused", take_guide, bad_rows, HAKKIYOLU_ROW_BYTES},
+        {"check_data", check_data, records, RECORDS},
+        {"check_data_refused", check_data, bad_records, HAKKIYOLU_RECORD_BYTES},
+        {"apply_data", apply_data, records, 3},
+        {"apply_data_refused", apply_data, bad_records, HAKKIYOLU_RECORD_BYTES},
+        {"check_guide", check_guide, rows, ROWS}, {"check_guide_refused", check_guide, bad_rows, HAKKIYOLU_ROW_BYTES},
+        {"apply_guide", apply_guide, rows, 2}, {"apply_guide_refused", apply_guide, bad_rows, HAKKIYOLU_ROW_BYTES},
         {"write_load", write_load, rows, 2}, {"convert_register", convert_register, old_reg, LAST_DAY},
         {"convert_register_refused", convert_register, late_reg, HAKKIYOLU_REFUSED_DAY + SLOTS - 1},
         {"read_tagged", read_tagged, text, HAKKIYOLU_RECORD_BYTES},

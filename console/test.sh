@@ -22,7 +22,7 @@ ok() {
 fail() {
     echo "FAILED $1"
     if [ -n "${2:-}" ]; then
-        sed 's/^/    /' <<<"$2"
+        printf '    %s\n' "${2//$'\n'/$'\n'    }"
     fi
     failed=$((failed + 1))
 }
@@ -84,7 +84,8 @@ $(cat valgrind.log)"
 # ---- The header alone --------------------------------------------------------------------------------------------
 
 # Included twice, for the guard. Every call once with nothing lent: NULL with length 0 is allowed, and refused by 1, as
-# a tagged text by 33, as a record by 9.
+# a tagged text by 33, as a record by 9. The checks are lent pointers to const, so this compiles only if they promise to
+# write nowhere.
 cat >face.c <<'END'
 #include "hakkiyolu.h"
 #include "hakkiyolu.h"
@@ -92,8 +93,13 @@ cat >face.c <<'END'
 int main(void)
 {
     const uint64_t seen = hakkiyolu_lookup(NULL, 0, NULL, 0);
-    const struct hakkiyolu_taken data = hakkiyolu_take_data(NULL, 0, NULL, 0, NULL, 0, NULL, 0, 7);
-    const struct hakkiyolu_taken guide = hakkiyolu_take_guide(NULL, 0, NULL, 0, NULL, 0, NULL, 0, 8);
+    const struct hakkiyolu_taken data = hakkiyolu_apply_data(NULL, 0, NULL, 0, NULL, 0, NULL, 0, 7);
+    const struct hakkiyolu_taken guide = hakkiyolu_apply_guide(NULL, 0, NULL, 0, NULL, 0, NULL, 0, 8);
+    const uint8_t *const none = NULL;
+    const struct hakkiyolu_taken checks[] = {
+        hakkiyolu_check_data(none, 0, none, 0, none, 0, none, 0, 9),
+        hakkiyolu_check_guide(none, 0, none, 0, none, 0, none, 0, 10),
+    };
     const struct hakkiyolu_loaded loaded = hakkiyolu_write_load(NULL, 0, NULL, 0, NULL, 0, 1, NULL, 0);
     const struct hakkiyolu_converted converted = hakkiyolu_convert_register(NULL, 0);
     const struct hakkiyolu_tagged read = hakkiyolu_read_tagged(NULL, 0, NULL, 0);
@@ -106,7 +112,13 @@ int main(void)
         && data.records == 0 && guide.records == 0 && loaded.bytes == 0 && loaded.entries == 0 && converted.slot == 0;
     const int tagged = read.refusal == HAKKIYOLU_REFUSED_TEXT && read.position == 0 && read.bytes == 0
         && written.refusal == HAKKIYOLU_REFUSED_RECORD && written.position == 0 && written.bytes == 0;
-    return refused && rest && tagged ? 0 : 1;
+    int checked = 1;
+    for (uint32_t i = 0; i < 2; i++) {
+        checked = checked && checks[i].refusal == HAKKIYOLU_REFUSED_REGISTER && checks[i].place == 0
+            && checks[i].position == 0 && checks[i].records == 0 && checks[i].done == 0 && checks[i].undone == 0
+            && checks[i].last == 9 + i;
+    }
+    return refused && rest && tagged && checked ? 0 : 1;
 }
 END
 cp face.c face.cpp
@@ -132,6 +144,21 @@ done
 quiet "libraries link in the other order" gcc -std=c11 "${warnings[@]}" face.c "$boundary" "$lookup" -o face
 runs "nothing lent is refused, other order" 0 "" "" ./face
 
+# exports LIBRARY CALL...: a check that of our calls the library has these alone, so that no old one can still be linked
+exports() {
+    local library=$1 got
+    shift
+    got=$(nm -g --defined-only "$library" | sed -n 's/.* T \(hakkiyolu_\)/\1/p' | LC_ALL=C sort)
+    if [ "$got" = "$(printf 'hakkiyolu_%s\n' "$@")" ]; then
+        ok "${library##*/} has these calls alone: $*"
+    else
+        fail "${library##*/} has these calls alone: $*" "$got"
+    fi
+}
+
+exports "$lookup" lookup
+exports "$boundary" apply_data apply_guide check_data check_guide convert_register read_tagged write_load write_tagged
+
 # ---- The programs ------------------------------------------------------------------------------------------------
 
 # builds NAME COMPILER OPTION...: writes console.NAME, circle.NAME and delivery.NAME
@@ -150,11 +177,13 @@ builds plain gcc -O2
 builds sanitized gcc "${sanitizers[@]}"
 if command -v clang >/dev/null; then builds clang clang -O2; fi
 
-circle_says="guide file of MILL COUNTY, cycle 1: 3 done, 1 not done
+circle_says="guide file of MILL COUNTY, cycle 1: checked, 4 records
+guide file of MILL COUNTY, cycle 1: 3 done, 1 not done
   I 1 to 99 MAIN ST, B, ESN 83: done
   I 100 to 198 MILL RD, E, ESN 84: done
   I 101 to 199 MILL RD, O, ESN 85: done
   I 150 to 150 MILL RD, B, ESN 86: turned away (21), clashes with a present row
+data file of OLDCO TELEPHONE, cycle 1: checked, 8 records
 data file of OLDCO TELEPHONE, cycle 1: 7 done, 1 not done
   I 5035550100 of OLDCO: done
   I 5035550101 of OLDCO: done
@@ -164,18 +193,28 @@ data file of OLDCO TELEPHONE, cycle 1: 7 done, 1 not done
   D 5035550102 of OLDCO: done
   U 5035550100 of OLDCO: done
   U 5035550103 of OLDCO: done
+data file of NEWCO TELEPHONE, cycle 2: checked, 1 record
 data file of NEWCO TELEPHONE, cycle 2: 1 done, 0 not done
   M 5035550100 of NEWCO: done
 5035550100 shows 109 MILL RD, ESN 85, of NEWCO
+data file of OLDCO TELEPHONE, cycle 3: checked, 2 records
 data file of OLDCO TELEPHONE, cycle 3: 0 done, 2 not done
   C 5035550100 of OLDCO: turned away (16), another company holds the number
   C 5035550103 of OLDCO: turned away (15), the number is open
 5035550100 shows 109 MILL RD, ESN 85, of NEWCO
+in the evening a file is checked, to be applied in the morning:
+data file of NEWCO TELEPHONE, cycle 4: checked, 1 record
+before the morning another file of that cycle comes, and is taken:
 tagged record of 101 bytes: read
+data file of OLDCO TELEPHONE, cycle 4: checked, 1 record
 data file of OLDCO TELEPHONE, cycle 4: 1 done, 0 not done
   I 5035550105 of OLDCO: done
 5035550105, written tagged: 101 bytes, the text that came
+in the morning the file that was checked is applied:
+data file of NEWCO TELEPHONE, cycle 4: refused (6), record 0, position 0
+its cycle went to the other file since the check; register and answers are unchanged
 load file written: 4 entries, 2448 bytes
+load file of REGISTER OFFICE, cycle 1: checked, 4 records
 load file of REGISTER OFFICE, cycle 1: 4 done, 0 not done
   slot 0, 5035550100: came back to slot 0
   slot 1, 5035550101: came back to slot 1
@@ -202,11 +241,12 @@ awk 'NR == 2 { for (i = 0; i < 10001; i++) print }' "$sample" >many.txt
 
 sample_says=$(cat "$root/console/delivery.expected")
 labels_say=$(cat "$root/console/labels.expected")
-guide_says=$(head -n 4 "$root/console/delivery.expected")
+guide_says=$(head -n 5 "$root/console/delivery.expected")
 good_says="$guide_says
 line 1: read, I 5035550100
 line 2: read, I 5035550101
 line 3: read, U 5035550101
+data file of ALPHA TELEPHONE, cycle 1: checked, 3 records
 data file of ALPHA TELEPHONE, cycle 1: 3 done, 0 not done
 line 1: done
 line 2: done
@@ -214,11 +254,13 @@ line 3: done"
 present='turned away (12), the number is present already'
 many_say="$guide_says
 $(seq -f 'line %.0f: read, I 5035550101' 9999)
+data file of ALPHA TELEPHONE, cycle 1: checked, 9999 records
 data file of ALPHA TELEPHONE, cycle 1: 1 done, 9998 not done
 line 1: done
 $(seq -f "line %.0f: $present" 2 9999)
 line 10000: read, I 5035550101
 line 10001: read, I 5035550101
+data file of ALPHA TELEPHONE, cycle 2: checked, 2 records
 data file of ALPHA TELEPHONE, cycle 2: 0 done, 2 not done
 line 10000: $present
 line 10001: $present"
@@ -318,6 +360,7 @@ programs() {
 }
 
 # Runs a command with its standard output on a device that is always full.
+# shellcheck disable=SC2317 # it is called by its name, in runs
 full() {
     "$@" >/dev/full
 }
@@ -345,9 +388,9 @@ fi
 quiet "stack builds" gcc -std=c11 -O2 -pthread "${warnings[@]}" "$root/console/stack.c" "$boundary" "$lookup" -o stack
 said=$(./stack 2>&1)
 status=$?
-for call in take_data take_data_refused take_guide take_guide_refused write_load convert_register \
-    convert_register_refused read_tagged read_tagged_refused write_tagged write_tagged_refused lookup_hit \
-    lookup_miss; do
+for call in check_data check_data_refused apply_data apply_data_refused check_guide check_guide_refused apply_guide \
+    apply_guide_refused write_load convert_register convert_register_refused read_tagged read_tagged_refused \
+    write_tagged write_tagged_refused lookup_hit lookup_miss; do
     if line=$(grep -Ex "stack $call [0-9]+" <<<"$said"); then
         ok "$line"
     else

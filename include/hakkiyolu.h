@@ -2,17 +2,18 @@
  * hakkiyolu.h: the C face of the Hakkiyolu location register.
  *
  * Telephone companies send data files: who has which number, and where. Counties send guide files: street ranges with
- * their emergency zone (ESN). A take applies such a file to a register and a guide; a load file carries the register to
- * a dispatch centre; a lookup finds a number for the dispatcher's screen. A register that was written when days counted
- * from 010100 is converted once. A tagged data record (Version 3.1) is read into a record of a data file, and written
- * from one.
+ * their emergency zone (ESN). Such a file is checked, which changes nothing, and applied to a register and a guide, at
+ * once or later; a load file carries the register to a dispatch centre; a lookup finds a number for the dispatcher's
+ * screen. A register that was written when days counted from 010100 is converted once. A tagged data record (Version
+ * 3.1) is read into a record of a data file, and written from one.
  *
  * The register and the guide are plain bytes that the caller owns and lends to each call. Every call answers every
  * input, however damaged: it has no error besides the numbers below.
  *
- * Libraries: hakkiyolu_lookup is in liblookup.a; hakkiyolu_take_data, hakkiyolu_take_guide, hakkiyolu_write_load,
- * hakkiyolu_convert_register, hakkiyolu_read_tagged and hakkiyolu_write_tagged are in libboundary.a. Neither needs the
- * other, and both may be linked into one program in either order.
+ * Libraries: hakkiyolu_lookup is in liblookup.a; hakkiyolu_check_data, hakkiyolu_apply_data, hakkiyolu_check_guide,
+ * hakkiyolu_apply_guide, hakkiyolu_write_load, hakkiyolu_convert_register, hakkiyolu_read_tagged and
+ * hakkiyolu_write_tagged are in libboundary.a. Neither needs the other, and both may be linked into one program in
+ * either order.
  *
  * RULES FOR BUFFERS, the same for every call. Each buffer is a pointer and, right behind it, its length in bytes.
  *
@@ -21,8 +22,8 @@
  *   - A call reads and writes only within the lengths it is given, writes only to what is not const here, and keeps no
  *     pointer once it has returned. The bytes need no alignment.
  *   - A call uses no heap and no global state, only a few kilobytes of stack. So calls on different buffers may run in
- *     parallel, and so may calls that only read the same buffer. While a call writes to a buffer, no other call may
- *     read it: locking is the caller's.
+ *     parallel, and so may calls that only read the same buffer, as checks and lookups do. While a call writes to a
+ *     buffer, no other call may read it: locking is the caller's.
  *   - A refused call changes no lent byte. A record that is turned away changes only its own answer byte.
  *
  * Nothing but the caller's care keeps these declarations in step with the libraries: use the header and the libraries
@@ -91,10 +92,10 @@ enum hakkiyolu_state {
 };
 
 /*
- * Why a call was refused. The refusals of a take are tried in the order of their numbers, and the first that applies
- * is told. Those of a load file are tried in the order 1, 26, 25; those of a conversion in the order 1, 28; those of a
- * lookup in the order 1, 10; those of reading a tagged text in the order 33, 34, 35, 36, 9, 25, each over the whole
- * text; those of writing one in the order 9, 37, 25.
+ * Why a call was refused. The refusals of checking a file, and of applying it, are tried in the order of their numbers,
+ * and the first that holds is told. Those of a load file are tried in the order 1, 26, 25; those of a conversion in the
+ * order 1, 28; those of a lookup in the order 1, 10; those of reading a tagged text in the order 33, 34, 35, 36, 9, 25,
+ * each over the whole text; those of writing one in the order 9, 37, 25.
  */
 enum hakkiyolu_refusal {
     HAKKIYOLU_NOT_REFUSED = 0,          /* the call was done */
@@ -120,8 +121,9 @@ enum hakkiyolu_refusal {
 };
 
 /*
- * What became of one record or row of a file that was taken: its answer byte. The first that applies is told.
- * 11 to 20 are answers to data records, 21 to 24 to guide rows. I inserts, C changes, D deletes, U unlocks, M migrates.
+ * What became of one record or row of a file that was applied: its answer byte. The first that holds is told. A check
+ * foretells no answer. 11 to 20 are answers to data records, 21 to 24 to guide rows. I inserts, C changes, D deletes,
+ * U unlocks, M migrates.
  */
 enum hakkiyolu_answer {
     HAKKIYOLU_ANSWER_DONE = 0,            /* accepted and applied */
@@ -143,15 +145,19 @@ enum hakkiyolu_answer {
 
 /* ---- What calls return ---------------------------------------------------------------------------------------- */
 
-/* What a take returns. If it was refused, `records`, `done` and `undone` are 0 and `last` is as it was given. */
+/*
+ * What checking and applying a file return. If it was refused, `records`, `done` and `undone` are 0 and `last` is as it
+ * was given. After a good check `records` counts the file's, `done` and `undone` are 0, and `last` is as it was given,
+ * for nothing was applied.
+ */
 struct hakkiyolu_taken {
     uint32_t refusal;  /* 0, or the refusal 1 to 9 (enum hakkiyolu_refusal) */
     uint32_t place;    /* refusal 9: the first bad record or row, from 1; otherwise 0 */
     uint32_t position; /* refusal 9: the first byte of its first bad field, from 1; otherwise 0 */
     uint32_t records;  /* how many records or rows the file has */
-    uint32_t done;     /* how many answers are 0 */
-    uint32_t undone;   /* how many answers are not 0; `done` and `undone` add up to `records` */
-    uint32_t last;     /* the last cycle after the call: keep it, and give it to the next take of this kind */
+    uint32_t done;     /* applied: how many answers are 0 */
+    uint32_t undone;   /* applied: how many answers are not 0; `done` and `undone` add up to `records` */
+    uint32_t last;     /* the last cycle after the call: keep it, and give it to the next call on a file of this kind */
 };
 
 /* What writing a load file returns. If it was refused, `bytes` and `entries` are 0. */
@@ -177,16 +183,43 @@ struct hakkiyolu_tagged {
 /* ---- Calls ---------------------------------------------------------------------------------------------------- */
 
 /*
- * Takes a data file: refuses it, or applies its records in turn, each to what the earlier ones left.
+ * Checks a data file: tests all that applying it tests, the refusals 1 to 9, and changes nothing. If it is refused, the
+ * call returns what applying returns on the same bytes. If it is good, `records` is the number of its records, `done`
+ * and `undone` are 0, and `last` is as it was given.
+ *
+ * A CHECK IS NO PERMIT: applying tests again, and nothing is handed over. If another data file is applied in between,
+ * a good file is refused by 6 afterwards; other files do not get it refused, but what damages register, guide or file
+ * may. No answer is foretold: an I whose address no guide row covers is checked good, and answered 18 when it is
+ * applied.
+ *
+ *   reg, reg_length          the register, read: 1 to 4096 slots of 520 bytes
+ *   guide, guide_length      the guide, read: 1 to 4096 slots of 208 bytes
+ *   file, file_length        the data file: header, records of 512 bytes, trailer
+ *   answers, answers_length  the answers as they will be lent to applying. Only the length counts (refusal 4), no byte
+ *                            is read or written: so the same list of arguments may be written twice
+ *   last                     the cycle of the last data file applied to this register, 0 if none yet. A second file of
+ *                            the same evening is checked with the cycle in the first one's header, since the first is
+ *                            not applied yet
+ */
+struct hakkiyolu_taken hakkiyolu_check_data(
+    const uint8_t *reg, size_t reg_length,
+    const uint8_t *guide, size_t guide_length,
+    const uint8_t *file, size_t file_length,
+    const uint8_t *answers, size_t answers_length,
+    uint32_t last);
+
+/*
+ * Applies a data file: refuses it, or applies its records in turn, each to what the earlier ones left. All that a check
+ * tests is tested here, whether or not there was one.
  *
  *   reg, reg_length          the register, read and written: 1 to 4096 slots of 520 bytes
  *   guide, guide_length      the guide, read: 1 to 4096 slots of 208 bytes
  *   file, file_length        the data file: header, records of 512 bytes, trailer
  *   answers, answers_length  one byte for each record, written; bytes past the last record stay as they are, and in a
  *                            file that is refused all do
- *   last                     the cycle of the last data file taken into this register, 0 if none yet
+ *   last                     the cycle of the last data file applied to this register, 0 if none yet
  */
-struct hakkiyolu_taken hakkiyolu_take_data(
+struct hakkiyolu_taken hakkiyolu_apply_data(
     uint8_t *reg, size_t reg_length,
     const uint8_t *guide, size_t guide_length,
     const uint8_t *file, size_t file_length,
@@ -194,7 +227,26 @@ struct hakkiyolu_taken hakkiyolu_take_data(
     uint32_t last);
 
 /*
- * Takes a guide file: refuses it, or applies its rows in turn, each to what the earlier ones left.
+ * Checks a guide file, as hakkiyolu_check_data checks a data file: tests all that applying it tests, changes nothing,
+ * and is no permit. `records` is the number of its rows.
+ *
+ *   reg, reg_length          the register, read, and so it stays in later versions: 1 to 4096 slots of 520 bytes
+ *   guide, guide_length      the guide, read: 1 to 4096 slots of 208 bytes
+ *   file, file_length        the guide file: header, rows of 200 bytes, trailer
+ *   answers, answers_length  the answers as they will be lent to applying; only the length counts
+ *   last                     the cycle of the last guide file applied to this guide, 0 if none yet; for a second file
+ *                            of the same evening, the cycle in the first one's header
+ */
+struct hakkiyolu_taken hakkiyolu_check_guide(
+    const uint8_t *reg, size_t reg_length,
+    const uint8_t *guide, size_t guide_length,
+    const uint8_t *file, size_t file_length,
+    const uint8_t *answers, size_t answers_length,
+    uint32_t last);
+
+/*
+ * Applies a guide file: refuses it, or applies its rows in turn, each to what the earlier ones left. All that a check
+ * tests is tested here, whether or not there was one.
  *
  *   reg, reg_length          the register: 1 to 4096 slots of 520 bytes. Today it is only read. It WILL BE WRITTEN TO
  *                            in a later version, when a county can change the ESN of a row and of the entries under it.
@@ -204,10 +256,10 @@ struct hakkiyolu_taken hakkiyolu_take_data(
  *   file, file_length        the guide file: header, rows of 200 bytes, trailer
  *   answers, answers_length  one byte for each row, written; bytes past the last row stay as they are, and in a file
  *                            that is refused all do
- *   last                     the cycle of the last guide file taken into this guide, 0 if none yet. Guide files and
+ *   last                     the cycle of the last guide file applied to this guide, 0 if none yet. Guide files and
  *                            data files count their cycles apart
  */
-struct hakkiyolu_taken hakkiyolu_take_guide(
+struct hakkiyolu_taken hakkiyolu_apply_guide(
     const uint8_t *reg, size_t reg_length,
     uint8_t *guide, size_t guide_length,
     const uint8_t *file, size_t file_length,
@@ -249,9 +301,10 @@ struct hakkiyolu_loaded hakkiyolu_write_load(
  *     all open or resting is sound by the old reading afterwards too: a second conversion moves its days again, or is
  *     refused by 28 if one of them is above 25567 by then. So keep track of which registers were converted, and which
  *     were begun since.
- *   - A REGISTER THAT WAS NOT CONVERTED IS NOT ALWAYS REFUSED by the other calls. With a held slot the takes and the
- *     load file refuse it by 1. One whose used slots are all open or resting may be sound by both readings: it is then
- *     used as it stands, the day of each used slot 10957 days too early. A lookup tests no slot and reads no day.
+ *   - A REGISTER THAT WAS NOT CONVERTED IS NOT ALWAYS REFUSED by the other calls. With a held slot checking, applying
+ *     and the load file refuse it by 1. One whose used slots are all open or resting may be sound by both readings: it
+ *     is then used as it stands, the day of each used slot 10957 days too early. A lookup tests no slot and reads no
+ *     day.
  */
 struct hakkiyolu_converted hakkiyolu_convert_register(uint8_t *reg, size_t reg_length);
 

@@ -152,17 +152,38 @@ fn answer_words(answer: u8) -> String {
     format!("turned away ({answer}), {words}")
 }
 
-/// Tells what became of a file.
-fn tell_taken(out: &mut impl Write, file: &str, cycle: u32, taken: &Taken) -> io::Result<()> {
-    write!(out, "{file}, cycle {cycle}: ")?;
+/// A file as it is named to whoever reads.
+struct Name {
+    file: &'static str,
+    cycle: u32,
+}
+
+/// Tells that a file was refused by a check or an apply, or this of it.
+fn tell(out: &mut impl Write, name: &Name, taken: &Taken, good: &str) -> io::Result<()> {
+    write!(out, "{}, cycle {}: ", name.file, name.cycle)?;
     if taken.refusal == 0 {
-        return writeln!(out, "{} done, {} not done", taken.done, taken.undone);
+        return writeln!(out, "{good}");
     }
     let (refusal, place, position) = (taken.refusal, taken.place, taken.position);
     writeln!(
         out,
         "refused ({refusal}), record {place}, position {position}"
     )
+}
+
+/// Tells what a check came to; false if the file was refused.
+fn tell_checked(out: &mut impl Write, name: &Name, checked: &Taken) -> io::Result<bool> {
+    let records = checked.records;
+    let plural = if records == 1 { "" } else { "s" };
+    let good = format!("checked, {records} record{plural}");
+    tell(out, name, checked, &good)?;
+    Ok(checked.refusal == 0)
+}
+
+/// Tells what an apply came to.
+fn tell_applied(out: &mut impl Write, name: &Name, applied: &Taken) -> io::Result<()> {
+    let good = format!("{} done, {} not done", applied.done, applied.undone);
+    tell(out, name, applied, &good)
 }
 
 fn guide_row([low, high, parity, prefix, street, suffix, post, esn]: &GuideRow) -> String {
@@ -172,23 +193,25 @@ fn guide_row([low, high, parity, prefix, street, suffix, post, esn]: &GuideRow) 
     )
 }
 
-/// Takes the guide; false if it was refused or a row turned away.
-fn take_guide(office: &mut Office, out: &mut impl Write) -> io::Result<bool> {
-    let cycle = next(office.last_guide);
+/// Checks and applies the guide; false if it was refused or a row turned away.
+fn take_rows(office: &mut Office, out: &mut impl Write) -> io::Result<bool> {
+    let last = office.last_guide;
+    let name = Name {
+        file: "guide file of MARION COUNTY",
+        cycle: next(last),
+    };
     let lines: String = ROWS.iter().map(guide_row).collect();
     assert_eq!(lines.len(), ROW * ROWS.len());
-    let file = frame("MARION COUNTY", cycle, lines.as_bytes(), ROWS.len());
+    let file = frame("MARION COUNTY", name.cycle, lines.as_bytes(), ROWS.len());
     let mut answers = vec![0; ROWS.len()];
-    let guide = &mut office.guide;
-    let taken = Library.take_guide(
-        &office.register,
-        guide,
-        &file,
-        &mut answers,
-        office.last_guide,
-    );
+    let (register, guide) = (&office.register, &mut office.guide);
+    let checked = Library.check_guide(register, guide, &file, &answers, last);
+    if !tell_checked(out, &name, &checked)? {
+        return Ok(false);
+    }
+    let taken = Library.apply_guide(register, guide, &file, &mut answers, last);
     office.last_guide = taken.last;
-    tell_taken(out, "guide file of MARION COUNTY", cycle, &taken)?;
+    tell_applied(out, &name, &taken)?;
     for (row, answer) in ROWS.iter().zip(&answers).take(taken.records as usize) {
         let [low, high, parity, .., esn] = row;
         let street = row[3..7].join(" ");
@@ -293,27 +316,29 @@ fn refusal_words(text: &[u8], read: &Tagged) -> String {
     format!("refused {told}{behind}")
 }
 
-/// Takes the records as the next data file, and tells each answer by its line;
-/// false if one was turned away.
+/// Checks and applies the records as the next data file, and tells each answer by
+/// its line; false if one was turned away.
 fn take_records(
     office: &mut Office,
     records: &[u8],
     lines: &[usize],
     out: &mut impl Write,
 ) -> io::Result<bool> {
-    let cycle = next(office.last_data);
-    let file = frame("ALPHA TELEPHONE", cycle, records, lines.len());
+    let last = office.last_data;
+    let name = Name {
+        file: "data file of ALPHA TELEPHONE",
+        cycle: next(last),
+    };
+    let file = frame("ALPHA TELEPHONE", name.cycle, records, lines.len());
     let mut answers = vec![0; lines.len()];
-    let register = &mut office.register;
-    let taken = Library.take_data(
-        register,
-        &office.guide,
-        &file,
-        &mut answers,
-        office.last_data,
-    );
+    let (register, guide) = (&mut office.register, &office.guide);
+    let checked = Library.check_data(register, guide, &file, &answers, last);
+    if !tell_checked(out, &name, &checked)? {
+        return Ok(false);
+    }
+    let taken = Library.apply_data(register, guide, &file, &mut answers, last);
     office.last_data = taken.last;
-    tell_taken(out, "data file of ALPHA TELEPHONE", cycle, &taken)?;
+    tell_applied(out, &name, &taken)?;
     for (line, answer) in lines.iter().zip(&answers).take(taken.records as usize) {
         writeln!(out, "line {line}: {}", answer_words(*answer))?;
     }
@@ -323,7 +348,7 @@ fn take_records(
 /// Reads the lines one by one and takes what is good; false if a line was refused
 /// or turned away.
 fn take_delivery(office: &mut Office, delivery: &[u8], out: &mut impl Write) -> io::Result<bool> {
-    let mut good = take_guide(office, out)?;
+    let mut good = take_rows(office, out)?;
     let (mut records, mut lines) = (Vec::new(), Vec::new());
     for (at, text) in delivery.split_inclusive(|byte| *byte == b'\n').enumerate() {
         let mut record = [0; RECORD];

@@ -4,13 +4,17 @@ use crate::lent::Lent;
 use crate::model::{Tagged, Taken};
 use crate::subject::Subject;
 
-/// One of the seven functions.
+/// One of the nine functions.
 #[derive(Clone, Copy, Debug, PartialEq, Eq)]
 pub enum Op {
-    /// Takes a data file.
-    TakeData,
-    /// Takes a guide file.
-    TakeGuide,
+    /// Checks a data file.
+    CheckData,
+    /// Checks a guide file.
+    CheckGuide,
+    /// Applies a data file.
+    ApplyData,
+    /// Applies a guide file.
+    ApplyGuide,
     /// Looks a number up.
     Lookup,
     /// Writes a load file.
@@ -25,11 +29,13 @@ pub enum Op {
 
 impl Op {
     /// How many there are.
-    pub const COUNT: usize = 7;
+    pub const COUNT: usize = 9;
     /// All of them.
     pub const ALL: [Op; Op::COUNT] = [
-        Op::TakeData,
-        Op::TakeGuide,
+        Op::CheckData,
+        Op::CheckGuide,
+        Op::ApplyData,
+        Op::ApplyGuide,
         Op::Lookup,
         Op::WriteLoad,
         Op::ConvertRegister,
@@ -37,9 +43,11 @@ impl Op {
         Op::WriteTagged,
     ];
     /// Those of files and stores; the others are of tagged texts.
-    pub const OF_FILES: [Op; 5] = [
-        Op::TakeData,
-        Op::TakeGuide,
+    pub const OF_FILES: [Op; 7] = [
+        Op::CheckData,
+        Op::CheckGuide,
+        Op::ApplyData,
+        Op::ApplyGuide,
         Op::Lookup,
         Op::WriteLoad,
         Op::ConvertRegister,
@@ -48,8 +56,10 @@ impl Op {
     /// The name in a calls file.
     pub fn name(self) -> &'static str {
         match self {
-            Op::TakeData => "take_data",
-            Op::TakeGuide => "take_guide",
+            Op::CheckData => "check_data",
+            Op::CheckGuide => "check_guide",
+            Op::ApplyData => "apply_data",
+            Op::ApplyGuide => "apply_guide",
             Op::Lookup => "lookup",
             Op::WriteLoad => "write_load",
             Op::ConvertRegister => "convert_register",
@@ -58,10 +68,24 @@ impl Op {
         }
     }
 
+    /// The check that tests what this apply tests.
+    pub fn check(self) -> Option<Op> {
+        match self {
+            Op::ApplyData => Some(Op::CheckData),
+            Op::ApplyGuide => Some(Op::CheckGuide),
+            _ => None,
+        }
+    }
+
+    /// Whether it is lent a file of data records.
+    pub fn has_records(self) -> bool {
+        matches!(self, Op::CheckData | Op::ApplyData)
+    }
+
     /// The given number's name, empty if none is given.
     pub fn given(self) -> &'static str {
         match self {
-            Op::TakeData | Op::TakeGuide => "last",
+            Op::CheckData | Op::CheckGuide | Op::ApplyData | Op::ApplyGuide => "last",
             Op::Lookup | Op::ConvertRegister | Op::ReadTagged | Op::WriteTagged => "",
             Op::WriteLoad => "cycle",
         }
@@ -70,7 +94,9 @@ impl Op {
     /// The names of the lent buffers, in the order they are handed over.
     pub fn lent(self) -> &'static [&'static str] {
         match self {
-            Op::TakeData | Op::TakeGuide => &["register", "guide", "file", "answers"],
+            Op::CheckData | Op::CheckGuide | Op::ApplyData | Op::ApplyGuide => {
+                &["register", "guide", "file", "answers"]
+            }
             Op::Lookup => &["register", "number"],
             Op::WriteLoad => &["register", "date", "name", "out"],
             Op::ConvertRegister => &["register"],
@@ -82,7 +108,7 @@ impl Op {
     /// The names of the returned numbers.
     pub fn returned(self) -> &'static [&'static str] {
         match self {
-            Op::TakeData | Op::TakeGuide => &[
+            Op::CheckData | Op::CheckGuide | Op::ApplyData | Op::ApplyGuide => &[
                 "refusal", "place", "position", "n", "done", "undone", "last",
             ],
             Op::Lookup => &["refusal", "state", "slot", "looked"],
@@ -141,6 +167,34 @@ impl Call {
         }
     }
 
+    /// The check of the same bytes, if this is an apply.
+    pub fn check(&self) -> Option<Self> {
+        let op = self.op.check()?;
+        Some(Call { op, ..self.clone() })
+    }
+
+    /// What this check must return to foretell an apply of the same bytes: its
+    /// refusal and n, nothing done, the last cycle as given.
+    fn foretold(&self, applied: &Outcome) -> Vec<u32> {
+        let mut returned = applied.returned.clone();
+        returned[4..].copy_from_slice(&[0, 0, self.given]);
+        returned
+    }
+
+    /// What this check must come to: that, and every byte as it was.
+    pub fn foretelling(&self, applied: &Outcome) -> Outcome {
+        Outcome {
+            returned: self.foretold(applied),
+            lent: self.lent.clone(),
+            intact: true,
+        }
+    }
+
+    /// Whether this is what the check came to.
+    pub fn foretells(&self, outcome: &Outcome, applied: &Outcome) -> bool {
+        outcome.intact && outcome.returned == self.foretold(applied) && outcome.lent == self.lent
+    }
+
     /// Makes the call on guarded copies of what it lends.
     pub fn run(&self, subject: &impl Subject, shift: usize) -> Outcome {
         let mut lent: Vec<Lent> = (self.lent.iter().enumerate())
@@ -150,25 +204,13 @@ impl Call {
         Outcome {
             returned,
             intact: lent.iter().all(Lent::is_intact),
-            lent: lent.iter().map(|buffer| buffer.bytes().to_vec()).collect(),
+            lent: lent.into_iter().map(Lent::into_bytes).collect(),
         }
     }
 
     fn returned(&self, subject: &impl Subject, lent: &mut [Lent]) -> Vec<u32> {
         let given = self.given;
         match (self.op, lent) {
-            (Op::TakeData, [register, guide, file, answers]) => {
-                let (register, answers) = (register.bytes_mut(), answers.bytes_mut());
-                let taken =
-                    subject.take_data(register, guide.bytes(), file.bytes(), answers, given);
-                taken_numbers(&taken)
-            }
-            (Op::TakeGuide, [register, guide, file, answers]) => {
-                let (guide, answers) = (guide.bytes_mut(), answers.bytes_mut());
-                let taken =
-                    subject.take_guide(register.bytes(), guide, file.bytes(), answers, given);
-                taken_numbers(&taken)
-            }
             (Op::Lookup, [register, number]) => {
                 let found = subject.lookup(register.bytes(), number.bytes());
                 vec![found.refusal, found.state, found.slot, found.looked]
@@ -188,7 +230,39 @@ impl Call {
             (Op::WriteTagged, [record, out]) => {
                 tagged_numbers(&subject.write_tagged(record.bytes(), out.bytes_mut()))
             }
+            (_, [register, guide, file, answers]) => {
+                taken_numbers(&self.taken(subject, register, guide, file.bytes(), answers))
+            }
             (op, lent) => panic!("{} lends {} buffers", op.name(), lent.len()),
+        }
+    }
+
+    /// What a check or an apply gives back.
+    fn taken(
+        &self,
+        subject: &impl Subject,
+        register: &mut Lent,
+        guide: &mut Lent,
+        file: &[u8],
+        answers: &mut Lent,
+    ) -> Taken {
+        let last = self.given;
+        match self.op {
+            Op::CheckData => {
+                subject.check_data(register.bytes(), guide.bytes(), file, answers.bytes(), last)
+            }
+            Op::CheckGuide => {
+                subject.check_guide(register.bytes(), guide.bytes(), file, answers.bytes(), last)
+            }
+            Op::ApplyData => {
+                let (register, answers) = (register.bytes_mut(), answers.bytes_mut());
+                subject.apply_data(register, guide.bytes(), file, answers, last)
+            }
+            Op::ApplyGuide => {
+                let (guide, answers) = (guide.bytes_mut(), answers.bytes_mut());
+                subject.apply_guide(register.bytes(), guide, file, answers, last)
+            }
+            op => panic!("{} lends no file", op.name()),
         }
     }
 

@@ -60,7 +60,7 @@ impl<A: Subject, B: Subject> Explorer<'_, A, B> {
         Ok(())
     }
 
-    /// The take of a file of this date with this record.
+    /// The apply of a file of this date with this record.
     fn record(
         &mut self,
         register: &[u8],
@@ -68,7 +68,7 @@ impl<A: Subject, B: Subject> Explorer<'_, A, B> {
         whole: [u8; RECORD],
     ) -> Result<(), Finding> {
         let call = Call {
-            op: Op::TakeData,
+            op: Op::ApplyData,
             given: 0,
             lent: vec![
                 register.to_vec(),

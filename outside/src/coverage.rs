@@ -50,6 +50,36 @@ pub struct Coverage {
     faults: [[u64; RECORD + 1]; OPS],
     damaged: [[u64; RECORD]; 4],
     occasions: [u64; OCCASIONS.len()],
+    mornings: [u64; Morning::BOTH.len()],
+}
+
+/// What becomes in the morning of a file that was checked good in the evening.
+#[derive(Clone, Copy)]
+pub enum Morning {
+    /// No other file of its kind was applied.
+    Kept,
+    /// Another one was.
+    Overtaken,
+}
+
+impl Morning {
+    const BOTH: [Morning; 2] = [Morning::Kept, Morning::Overtaken];
+
+    /// In words.
+    pub fn name(self) -> &'static str {
+        match self {
+            Morning::Kept => "a good check, no file of its kind applied, then 0",
+            Morning::Overtaken => "a good check, another file applied, then 6",
+        }
+    }
+
+    /// What applying it says.
+    pub fn refusal(self) -> u32 {
+        match self {
+            Morning::Kept => 0,
+            Morning::Overtaken => 6,
+        }
+    }
 }
 
 impl Default for Coverage {
@@ -60,6 +90,7 @@ impl Default for Coverage {
             faults: [[0; RECORD + 1]; OPS],
             damaged: [[0; RECORD]; 4],
             occasions: [0; OCCASIONS.len()],
+            mornings: [0; Morning::BOTH.len()],
         }
     }
 }
@@ -67,7 +98,9 @@ impl Default for Coverage {
 /// The refusals that each function can give, no refusal among them.
 fn refusals(op: Op) -> &'static [usize] {
     match op {
-        Op::TakeData | Op::TakeGuide => &[0, 1, 2, 3, 4, 5, 6, 7, 8, 9],
+        Op::CheckData | Op::CheckGuide | Op::ApplyData | Op::ApplyGuide => {
+            &[0, 1, 2, 3, 4, 5, 6, 7, 8, 9]
+        }
         Op::Lookup => &[0, 1, 10],
         Op::WriteLoad => &[0, 1, 25, 26],
         Op::ConvertRegister => &[0, 1, 28],
@@ -75,20 +108,20 @@ fn refusals(op: Op) -> &'static [usize] {
     }
 }
 
-/// The answers that each take can give.
+/// The answers that each apply can give.
 fn answers(op: Op) -> &'static [usize] {
     match op {
-        Op::TakeData => &[0, 11, 12, 13, 14, 15, 16, 17, 18, 19, 20],
-        Op::TakeGuide => &[0, 21, 22, 23, 24],
+        Op::ApplyData => &[0, 11, 12, 13, 14, 15, 16, 17, 18, 19, 20],
+        Op::ApplyGuide => &[0, 21, 22, 23, 24],
         _ => &[],
     }
 }
 
-/// The fields whose faults a take can find.
+/// The fields whose faults a check or an apply can find.
 fn fields(op: Op) -> &'static [Field] {
     match op {
-        Op::TakeData => &record::FIELDS,
-        Op::TakeGuide => &row::FIELDS,
+        Op::CheckData | Op::ApplyData => &record::FIELDS,
+        Op::CheckGuide | Op::ApplyGuide => &row::FIELDS,
         _ => &[],
     }
 }
@@ -97,6 +130,18 @@ impl Coverage {
     /// Counts a damaged byte, from 0.
     pub fn note_damage(&mut self, part: Part, byte: usize) {
         self.damaged[part as usize][byte] += 1;
+    }
+
+    /// Counts what became of a file that was checked in the evening.
+    pub fn note_morning(&mut self, morning: Morning) {
+        self.mornings[morning as usize] += 1;
+    }
+
+    /// The occasions with their counts: those of one call, and those of several.
+    fn occasions(&self) -> impl Iterator<Item = (&'static str, u64)> + '_ {
+        let names = OCCASIONS.iter().map(|(name, _)| *name);
+        let mornings = Morning::BOTH.map(Morning::name).into_iter();
+        names.zip(self.occasions).chain(mornings.zip(self.mornings))
     }
 }
 
@@ -108,11 +153,11 @@ impl Notes for Coverage {
         for (count, (_, came_up)) in self.occasions.iter_mut().zip(OCCASIONS) {
             *count += u64::from(came_up(call, outcome));
         }
-        if !matches!(call.op, Op::TakeData | Op::TakeGuide) {
-            return;
-        }
         if refusal == 9 {
             self.faults[op][outcome.returned[2] as usize] += 1;
+        }
+        if answers(call.op).is_empty() {
+            return;
         }
         let applied = outcome.returned[3] as usize;
         for &answer in &outcome.lent[3][..applied] {
@@ -133,6 +178,8 @@ impl Notes for Coverage {
             if !answers(op).is_empty() {
                 let answers = list(answers(op), &self.answers[at]);
                 lines.push(format!("{name} answers{answers}"));
+            }
+            if !fields(op).is_empty() {
                 let firsts: Vec<usize> = fields(op).iter().map(|field| field.first).collect();
                 let faults = list(&firsts, &self.faults[at]);
                 lines.push(format!("{name} fault positions{faults}"));
@@ -146,9 +193,8 @@ impl Notes for Coverage {
                 "{part:?} bytes damaged {bytes} of {length}, least often {least}"
             ));
         }
-        for (count, (name, _)) in self.occasions.iter().zip(OCCASIONS) {
-            lines.push(format!("{name}: {count}"));
-        }
+        let occasions = self.occasions();
+        lines.extend(occasions.map(|(name, count)| format!("{name}: {count}")));
         lines
     }
 
@@ -185,7 +231,7 @@ impl Notes for Coverage {
                 );
             }
         }
-        for (&count, (name, _)) in self.occasions.iter().zip(OCCASIONS) {
+        for (name, count) in self.occasions() {
             want(count, name.to_string());
         }
         missing

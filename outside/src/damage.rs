@@ -99,15 +99,16 @@ fn change(
     coverage.note_damage(part, byte);
 }
 
-/// The size, fields and part of a take's records.
+/// The size, fields and part of a file's records.
 fn kind(op: Op) -> (usize, &'static [Field], Part) {
-    match op {
-        Op::TakeData => (RECORD, &record::FIELDS, Part::Record),
-        _ => (ROW, &row::FIELDS, Part::Row),
+    if op.has_records() {
+        (RECORD, &record::FIELDS, Part::Record)
+    } else {
+        (ROW, &row::FIELDS, Part::Row)
     }
 }
 
-/// Damages the file of a take at one place: header, trailer or a record.
+/// Damages the file of an apply at one place: header, trailer or a record.
 fn damage_file(random: &mut Random, coverage: &mut Coverage, op: Op, file: &mut Vec<u8>) {
     let (size, fields, part) = kind(op);
     let count = (file.len() - 2 * EDGE) / size;
@@ -158,7 +159,7 @@ fn cut(random: &mut Random, size: usize, bytes: &mut Vec<u8>) {
 /// Damages a slot of a register or guide, or the store's length.
 fn damage_store(random: &mut Random, coverage: &mut Coverage, op: Op, store: &mut Vec<u8>) {
     let (slot, fields, part): (usize, &[Field], Part) = match op {
-        Op::TakeGuide => (GUIDE_SLOT, &row::FIELDS, Part::Row),
+        Op::ApplyGuide => (GUIDE_SLOT, &row::FIELDS, Part::Row),
         _ => (REGISTER_SLOT, &record::FIELDS, Part::Record),
     };
     if random.chance(8) {
@@ -197,7 +198,7 @@ fn damage_store(random: &mut Random, coverage: &mut Coverage, op: Op, store: &mu
 /// that a run may go on from its outcome.
 pub fn damage(random: &mut Random, coverage: &mut Coverage, call: &mut Call) -> bool {
     match call.op {
-        Op::TakeData | Op::TakeGuide => damage_take(random, coverage, call),
+        Op::ApplyData | Op::ApplyGuide => damage_apply(random, coverage, call),
         Op::Lookup => {
             match random.below(5) {
                 0 => cut(random, REGISTER_SLOT, &mut call.lent[0]),
@@ -206,7 +207,7 @@ pub fn damage(random: &mut Random, coverage: &mut Coverage, call: &mut Call) -> 
                     let byte = random.below(call.lent[1].len());
                     call.lent[1][byte] = random.pick(BYTES);
                 }
-                _ => damage_store(random, coverage, Op::TakeData, &mut call.lent[0]),
+                _ => damage_store(random, coverage, Op::ApplyData, &mut call.lent[0]),
             }
             false
         }
@@ -223,26 +224,27 @@ pub fn damage(random: &mut Random, coverage: &mut Coverage, call: &mut Call) -> 
                 }
                 3 => call.lent[2] = vec![b' '; random.pick(&[49, 50, 51])],
                 4 => cut(random, RECORD, &mut call.lent[3]),
-                _ => damage_store(random, coverage, Op::TakeData, &mut call.lent[0]),
+                _ => damage_store(random, coverage, Op::ApplyData, &mut call.lent[0]),
             }
             false
         }
         Op::ConvertRegister => {
-            damage_store(random, coverage, Op::TakeData, &mut call.lent[0]);
+            damage_store(random, coverage, Op::ApplyData, &mut call.lent[0]);
             false
         }
+        Op::CheckData | Op::CheckGuide => unreachable!("a check is of an apply's bytes"),
         Op::ReadTagged | Op::WriteTagged => unreachable!("texts are damaged elsewhere"),
     }
 }
 
-fn damage_take(random: &mut Random, coverage: &mut Coverage, call: &mut Call) -> bool {
+fn damage_apply(random: &mut Random, coverage: &mut Coverage, call: &mut Call) -> bool {
     match random.below(20) {
         0..=2 => {
-            damage_store(random, coverage, Op::TakeData, &mut call.lent[0]);
+            damage_store(random, coverage, Op::ApplyData, &mut call.lent[0]);
             return false;
         }
         3..=5 => {
-            damage_store(random, coverage, Op::TakeGuide, &mut call.lent[1]);
+            damage_store(random, coverage, Op::ApplyGuide, &mut call.lent[1]);
             return false;
         }
         6 => {

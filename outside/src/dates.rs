@@ -19,7 +19,7 @@ pub fn days_stored(subject: &impl Subject, dates: &[[u8; 6]]) -> Vec<Day> {
     let file = file(LAST_DATE, 1, &records, dates.len());
     let mut register = vec![0; dates.len() * REGISTER_SLOT];
     let mut answers = vec![0xee; dates.len()];
-    let taken = subject.take_data(&mut register, &town::guide(1), &file, &mut answers, 0);
+    let taken = subject.apply_data(&mut register, &town::guide(1), &file, &mut answers, 0);
     assert_eq!((taken.refusal, taken.done as usize), (0, dates.len()));
     register.chunks_exact(REGISTER_SLOT).map(slot_day).collect()
 }
@@ -50,7 +50,7 @@ fn day_inserted(subject: &impl Subject, date: &[u8; 6]) -> Result<Option<Day>, S
     let whole = town::record_at(b'I', 0, 1, b"ABC", date);
     let file = file(LAST_DATE, 1, &whole, 1);
     let (mut register, mut answers) = ([0; REGISTER_SLOT], [0xee]);
-    let taken = subject.take_data(&mut register, &town::guide(1), &file, &mut answers, 0);
+    let taken = subject.apply_data(&mut register, &town::guide(1), &file, &mut answers, 0);
     let position = record::DATE.first as u32;
     if (taken.refusal, taken.done) == (0, 1) {
         Ok(Some(slot_day(&register)))

@@ -83,11 +83,11 @@ impl Input {
         }
     }
 
-    /// A file and its take, sometimes damaged.
+    /// A file to be taken, sometimes damaged.
     fn file(&mut self, code: u8) {
         let mut call = match code {
-            0x02 => self.world.take_guide(),
-            _ => self.world.take_data(),
+            0x02 => self.world.apply_guide(),
+            _ => self.world.apply_data(),
         };
         if self.random.chance(30) {
             // What is not the file cannot be damaged from here.

@@ -16,20 +16,6 @@ const RECORDS: [usize; 5] = [0, 1, 127, 9999, 10_000];
 /// No entry is later.
 const LAST_DATE: &[u8; 6] = b"123169";
 
-/// A take of this world's with the file given.
-fn take(world: &World, op: Op, file: Vec<u8>, answers: usize) -> Call {
-    let given = match op {
-        Op::TakeData => world.last_data,
-        _ => world.last_guide,
-    };
-    let answers = vec![0xee; answers];
-    Call {
-        op,
-        given,
-        lent: vec![world.register.clone(), world.guide.clone(), file, answers],
-    }
-}
-
 impl<A: Subject, B: Subject> Explorer<'_, A, B> {
     /// Every edge once.
     pub(crate) fn every_edge(&mut self, seed: u64) -> Result<(), Finding> {
@@ -48,15 +34,15 @@ impl<A: Subject, B: Subject> Explorer<'_, A, B> {
     /// Guide and data files of every size, with answers buffers that just hold
     /// the answers, are a byte short, or have bytes to spare.
     fn file_sizes(&mut self, world: &mut World) -> Result<(), Finding> {
-        for op in [Op::TakeGuide, Op::TakeData] {
+        for op in [Op::ApplyGuide, Op::ApplyData] {
             for count in RECORDS {
                 let file = match op {
-                    Op::TakeGuide => world.guide_file(count),
+                    Op::ApplyGuide => world.guide_file(count),
                     _ => world.data_file(count),
                 };
-                let short = take(world, op, file.clone(), count.saturating_sub(1));
+                let short = world.apply(op, file.clone(), count.saturating_sub(1));
                 self.compare(&short, count)?;
-                let call = take(world, op, file, count + count % 2);
+                let call = world.apply(op, file, count + count % 2);
                 let outcome = self.compare(&call, count + 1)?;
                 world.adopt(op, &outcome.returned, &outcome.lent);
             }
@@ -66,11 +52,11 @@ impl<A: Subject, B: Subject> Explorer<'_, A, B> {
 
     /// Every last cycle with the cycle after it, 1 and 999999, n = 0.
     fn last_cycles(&mut self, world: &mut World) -> Result<(), Finding> {
-        for op in [Op::TakeGuide, Op::TakeData] {
+        for op in [Op::ApplyGuide, Op::ApplyData] {
             for last in LASTS {
                 for cycle in [next_cycle(last), 1, 999_999] {
                     let empty = file(b"010100", cycle % 1_000_000, b"", 0);
-                    let mut call = take(world, op, empty, 0);
+                    let mut call = world.apply(op, empty, 0);
                     call.given = last;
                     self.compare(&call, 7)?;
                 }
@@ -81,13 +67,13 @@ impl<A: Subject, B: Subject> Explorer<'_, A, B> {
 
     /// Stores that are a byte or a slot off, and the largest and one too large.
     fn store_lengths(&mut self, world: &World) -> Result<(), Finding> {
-        for op in [Op::TakeGuide, Op::TakeData] {
+        for op in [Op::ApplyGuide, Op::ApplyData] {
             for (store, slot) in [(0, REGISTER_SLOT), (1, GUIDE_SLOT)] {
                 let now = world.guide.len() / GUIDE_SLOT * slot;
                 let most = MOST_SLOTS * slot;
                 for length in [0, 1, now - 1, now + 1, most, most + slot] {
                     let empty = file(LAST_DATE, 1, b"", 0);
-                    let mut call = take(world, op, empty, 0);
+                    let mut call = world.apply(op, empty, 0);
                     call.given = 0;
                     call.lent[store].resize(length, 0);
                     self.compare(&call, length)?;

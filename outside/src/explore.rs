@@ -1,7 +1,7 @@
 //! Compares two subjects on random runs, and holds the runs to the demands.
 
 use crate::call::{Call, Op, Outcome};
-use crate::coverage::{Coverage, Notes};
+use crate::coverage::{Coverage, Morning, Notes};
 use crate::damage::damage;
 use crate::demands::{round_trip, History};
 use crate::gen::World;
@@ -22,6 +22,9 @@ pub struct Finding {
     /// The call, as a line of a calls file, with what was expected.
     pub line: String,
 }
+
+/// One step of a run in so many is an evening too.
+const EVENINGS: usize = 8;
 
 /// A demand that a run did not keep after this call.
 fn not_kept(what: &str, seed: u64, call: &Call, outcome: &Outcome) -> Finding {
@@ -91,29 +94,57 @@ impl<'a, A: Subject, B: Subject, C: Notes> Explorer<'a, A, B, C> {
         }
     }
 
-    /// Compares one call; the outcome is the same for both.
+    /// Compares a call, and before an apply the check of the same bytes, which must
+    /// foretell it; the outcome is the same for both.
     pub fn compare(&mut self, call: &Call, shift: usize) -> Result<Outcome, Finding> {
+        let Some(check) = call.check() else {
+            return self.compare_alone(call, shift);
+        };
+        let foretold = self.compare_alone(&check, shift)?;
+        let outcome = self.compare_alone(call, shift)?;
+        if check.foretells(&foretold, &outcome) {
+            return Ok(outcome);
+        }
+        Err(self.smallest(call, shift, |call| self.unforetold(call, shift)))
+    }
+
+    /// Compares one call and no other.
+    pub(crate) fn compare_alone(&mut self, call: &Call, shift: usize) -> Result<Outcome, Finding> {
         self.calls += 1;
         let got = call.run(self.got, shift);
         let expected = call.run(self.expected, shift);
         if call.difference(&expected, &got).is_some() {
-            return Err(self.smallest(call, shift));
+            return Err(self.smallest(call, shift, |call| self.difference(call, shift)));
         }
         self.coverage.note(call, &got);
         Ok(got)
     }
 
-    /// The difference on as small a call as shows one.
-    fn smallest(&self, call: &Call, shift: usize) -> Finding {
-        let both = |call: &Call| (call.run(self.expected, shift), call.run(self.got, shift));
-        let difference = |call: &Call| {
-            let (expected, got) = both(call);
-            call.difference(&expected, &got)
-        };
-        let small = shrink(call, |call| difference(call).is_some());
+    /// Where the outcomes of this call differ.
+    fn difference(&self, call: &Call, shift: usize) -> Option<String> {
+        let (expected, got) = (call.run(self.expected, shift), call.run(self.got, shift));
+        call.difference(&expected, &got)
+    }
+
+    /// Where the check does not foretell this apply.
+    fn unforetold(&self, call: &Call, shift: usize) -> Option<String> {
+        let check = call.check()?;
+        let expected = check.foretelling(&call.run(self.got, shift));
+        let text = check.difference(&expected, &check.run(self.got, shift))?;
+        Some(format!("the check does not foretell the apply: {text}"))
+    }
+
+    /// What is wrong, on as small a call as shows it.
+    fn smallest(
+        &self,
+        call: &Call,
+        shift: usize,
+        wrong: impl Fn(&Call) -> Option<String>,
+    ) -> Finding {
+        let small = shrink(call, |call| wrong(call).is_some());
         Finding {
-            what: difference(&small).unwrap_or_default(),
-            line: line(&small, &both(&small).0, "expected"),
+            what: wrong(&small).unwrap_or_default(),
+            line: line(&small, &small.run(self.expected, shift), "expected"),
         }
     }
 }
@@ -136,7 +167,11 @@ impl<A: Subject, B: Subject> Runs for Explorer<'_, A, B> {
         let (mut world, mut history) =
             old.unwrap_or_else(|| (World::new(seed), History::default()));
         let small = world.register.len() <= 64 * REGISTER_SLOT;
+        let mut waiting = None;
         for left in (0..random.between(4, 40)).rev() {
+            if random.below(EVENINGS) == 0 {
+                waiting = self.evening(&mut world, &mut random)?;
+            }
             let (mut call, whole) = self.next_call(&mut world, &mut random);
             let goes_on = whole || damage(&mut random, &mut self.coverage, &mut call);
             let outcome = self.compare(&call, random.below(64))?;
@@ -144,6 +179,11 @@ impl<A: Subject, B: Subject> Runs for Explorer<'_, A, B> {
             if goes_on {
                 world.adopt(call.op, &outcome.returned, &outcome.lent);
                 kept = history.note(&call, &outcome);
+                let is_behind = |file: &mut Call| file.op == call.op && outcome.refusal() == 0;
+                let late = waiting.take_if(is_behind);
+                late.map_or(Ok(()), |file| {
+                    self.morning(&file, &world, Morning::Overtaken)
+                })?;
             }
             // Large stores are held to the demands when the run ends.
             if small && goes_on || left == 0 {
@@ -151,7 +191,7 @@ impl<A: Subject, B: Subject> Runs for Explorer<'_, A, B> {
             }
             kept.map_err(|what| not_kept(&what, seed, &call, &outcome))?;
         }
-        Ok(())
+        waiting.map_or(Ok(()), |file| self.morning(&file, &world, Morning::Kept))
     }
 
     fn calls(&self) -> u64 {
@@ -177,9 +217,9 @@ impl<A: Subject, B: Subject> Explorer<'_, A, B> {
         let mut history = History::default();
         for turn in 0..random.between(2, 10) {
             let call = if turn == 0 || random.chance(25) {
-                world.take_guide()
+                world.apply_guide()
             } else {
-                world.take_data()
+                world.apply_data()
             };
             let outcome = call.run(&Model::<Former<Described>>::new(), 0);
             world.adopt(call.op, &outcome.returned, &outcome.lent);
@@ -201,15 +241,44 @@ impl<A: Subject, B: Subject> Explorer<'_, A, B> {
     /// A call for the world as it is, and whether it is left undamaged.
     fn next_call(&mut self, world: &mut World, random: &mut Random) -> (Call, bool) {
         let call = match random.below(18) {
-            0..=3 => world.take_guide(),
+            0..=3 => world.apply_guide(),
             4 | 5 => world.lookup(),
             6 | 7 => world.write_load(),
             8 | 9 => world.convert(),
-            _ => world.take_data(),
+            _ => world.apply_data(),
         };
-        // Runs get far only if most takes of theirs are accepted.
-        let whole = random.chance(if call.op == Op::TakeData { 55 } else { 45 });
+        // Runs get far only if most files of theirs are accepted.
+        let whole = random.chance(if call.op == Op::ApplyData { 55 } else { 45 });
         (call, whole)
+    }
+
+    /// A file is checked in the evening; if that is good it waits for the morning,
+    /// which may never come.
+    fn evening(&mut self, world: &mut World, random: &mut Random) -> Result<Option<Call>, Finding> {
+        let call = if random.chance(50) {
+            world.apply_guide()
+        } else {
+            world.apply_data()
+        };
+        let check = call.check().expect("an apply");
+        let foretold = self.compare_alone(&check, random.below(64))?;
+        Ok((foretold.refusal() == 0).then_some(call))
+    }
+
+    /// The file that waits is applied in the morning: refused by 6 behind another of
+    /// its kind, whose cycle was the same, with nothing changed, and else not refused.
+    fn morning(&mut self, file: &Call, world: &World, due: Morning) -> Result<(), Finding> {
+        let call = world.apply(file.op, file.lent[2].clone(), file.lent[3].len());
+        let outcome = self.compare(&call, 9)?;
+        let changes = outcome.lent != call.lent;
+        if outcome.refusal() != due.refusal() || due.refusal() != 0 && changes {
+            return Err(Finding {
+                what: format!("not so: {}", due.name()),
+                line: line(&call, &outcome, "morning"),
+            });
+        }
+        self.coverage.note_morning(due);
+        Ok(())
     }
 
     /// The brief's demands on what a run has left.

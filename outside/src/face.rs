@@ -4,7 +4,31 @@ use crate::model::{Converted, Found, Loaded, Tagged, Taken};
 use crate::subject::Subject;
 
 extern "C" {
-    fn hakkiyolu_take_data(
+    fn hakkiyolu_check_data(
+        register: *const u8,
+        register_length: usize,
+        guide: *const u8,
+        guide_length: usize,
+        file: *const u8,
+        file_length: usize,
+        answers: *const u8,
+        answers_length: usize,
+        last: u32,
+    ) -> Taken;
+
+    fn hakkiyolu_check_guide(
+        register: *const u8,
+        register_length: usize,
+        guide: *const u8,
+        guide_length: usize,
+        file: *const u8,
+        file_length: usize,
+        answers: *const u8,
+        answers_length: usize,
+        last: u32,
+    ) -> Taken;
+
+    fn hakkiyolu_apply_data(
         register: *mut u8,
         register_length: usize,
         guide: *const u8,
@@ -16,7 +40,7 @@ extern "C" {
         last: u32,
     ) -> Taken;
 
-    fn hakkiyolu_take_guide(
+    fn hakkiyolu_apply_guide(
         register: *const u8,
         register_length: usize,
         guide: *mut u8,
@@ -85,12 +109,69 @@ fn start_mut(bytes: &mut [u8]) -> *mut u8 {
     }
 }
 
+/// One of the two checks.
+type Check = unsafe extern "C" fn(
+    *const u8,
+    usize,
+    *const u8,
+    usize,
+    *const u8,
+    usize,
+    *const u8,
+    usize,
+    u32,
+) -> Taken;
+
 // SAFETY of every call below: each pointer comes with the length of the slice it
 // was made from, slices do not overlap by Rust's own rules, what is lent as
 // `*const` is not written (the guard and compare tests watch that), and nothing
 // is kept after the call.
+
+/// Lends all of it to that check, read-only.
+fn checked(check: Check, [register, guide, file, answers]: [&[u8]; 4], last: u32) -> Taken {
+    unsafe {
+        check(
+            start(register),
+            register.len(),
+            start(guide),
+            guide.len(),
+            start(file),
+            file.len(),
+            start(answers),
+            answers.len(),
+            last,
+        )
+    }
+}
+
 impl Subject for Library {
-    fn take_data(
+    fn check_data(
+        &self,
+        register: &[u8],
+        guide: &[u8],
+        file: &[u8],
+        answers: &[u8],
+        last: u32,
+    ) -> Taken {
+        checked(hakkiyolu_check_data, [register, guide, file, answers], last)
+    }
+
+    fn check_guide(
+        &self,
+        register: &[u8],
+        guide: &[u8],
+        file: &[u8],
+        answers: &[u8],
+        last: u32,
+    ) -> Taken {
+        checked(
+            hakkiyolu_check_guide,
+            [register, guide, file, answers],
+            last,
+        )
+    }
+
+    fn apply_data(
         &self,
         register: &mut [u8],
         guide: &[u8],
@@ -99,7 +180,7 @@ impl Subject for Library {
         last: u32,
     ) -> Taken {
         unsafe {
-            hakkiyolu_take_data(
+            hakkiyolu_apply_data(
                 start_mut(register),
                 register.len(),
                 start(guide),
@@ -113,7 +194,7 @@ impl Subject for Library {
         }
     }
 
-    fn take_guide(
+    fn apply_guide(
         &self,
         register: &[u8],
         guide: &mut [u8],
@@ -122,7 +203,7 @@ impl Subject for Library {
         last: u32,
     ) -> Taken {
         unsafe {
-            hakkiyolu_take_guide(
+            hakkiyolu_apply_guide(
                 start(register),
                 register.len(),
                 start_mut(guide),

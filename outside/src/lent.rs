@@ -2,18 +2,24 @@
 
 /// Guard bytes on either side.
 const GUARD: usize = 96;
-/// What a guard byte at this place holds.
-fn pattern(place: usize) -> u8 {
-    (place as u8).wrapping_mul(29) ^ 0xa5
+/// What the guard bytes hold repeats after so many.
+const PERIOD: usize = 256;
+/// What they hold, from any place of a period on.
+static PATTERN: [u8; 2 * PERIOD] = pattern();
+
+const fn pattern() -> [u8; 2 * PERIOD] {
+    let mut bytes = [0; 2 * PERIOD];
+    let mut place = 0;
+    while place < bytes.len() {
+        bytes[place] = (place as u8).wrapping_mul(29) ^ 0xa5;
+        place += 1;
+    }
+    bytes
 }
 
-/// Whether guard bytes from this place on are as they were; without a branch, so
-/// that it runs over many bytes at a time.
-fn is_pattern(guard: &[u8], from: usize) -> bool {
-    guard
-        .iter()
-        .zip(from..)
-        .fold(true, |good, (&byte, place)| good & (byte == pattern(place)))
+/// So many guard bytes from this place on.
+fn guard(from: usize, length: usize) -> &'static [u8] {
+    &PATTERN[from % PERIOD..][..length]
 }
 
 /// A buffer to lend, with a guard area on either side.
@@ -30,9 +36,9 @@ impl Lent {
         let start = GUARD + shift % 64;
         let length = bytes.len();
         let mut all = Vec::with_capacity(start + length + GUARD);
-        all.extend((0..start).map(pattern));
+        all.extend_from_slice(guard(0, start));
         all.extend_from_slice(bytes);
-        all.extend((start + length..start + length + GUARD).map(pattern));
+        all.extend_from_slice(guard(start + length, GUARD));
         Lent { all, start, length }
     }
 
@@ -46,10 +52,17 @@ impl Lent {
         &mut self.all[self.start..self.start + self.length]
     }
 
+    /// The lent bytes alone; they are moved, for a copy of many needs fresh memory.
+    pub fn into_bytes(mut self) -> Vec<u8> {
+        self.all.truncate(self.start + self.length);
+        self.all.drain(..self.start);
+        self.all
+    }
+
     /// Whether both guard areas are as they were.
     pub fn is_intact(&self) -> bool {
         let end = self.start + self.length;
-        is_pattern(&self.all[..self.start], 0) && is_pattern(&self.all[end..], end)
+        self.all[..self.start] == *guard(0, self.start) && self.all[end..] == *guard(end, GUARD)
     }
 }
 
@@ -68,6 +81,7 @@ mod tests {
                 assert!(!lent.is_intact());
                 lent.all[place] ^= 1;
             }
+            assert_eq!(lent.into_bytes(), [0; 5]);
         }
     }
 }

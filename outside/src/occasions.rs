@@ -1,20 +1,21 @@
-//! What must come up beside the numbers: conversions of each kind, and decisions
-//! between a date of the last century and one of this.
+//! What must come up beside the numbers: conversions of each kind, decisions
+//! between a date of the last century and one of this, and how far a check goes.
 
 use crate::call::{Call, Op, Outcome};
 use crate::model::convert::{LAST_FORMER_DAY, MOVED};
 use crate::model::date::{day, Day};
-use crate::model::layout::{header, record, EDGE, RECORD};
+use crate::model::layout::{header, record, EDGE, MOST_RECORDS, RECORD};
 use crate::model::store::{
     is_live, register_fits, register_sound, slot_day, slot_number, slots, FREE, HELD, OPEN, RESTING,
 };
 use crate::model::{Described, Former};
+use crate::subject::Model;
 
 /// Whether a call and its outcome are such an occasion.
 type CameUp = fn(&Call, &Outcome) -> bool;
 
 /// All of them, with their names.
-pub const OCCASIONS: [(&str, CameUp); 16] = [
+pub const OCCASIONS: [(&str, CameUp); 18] = [
     ("a held slot converted", is_converted::<HELD>),
     ("an open slot converted", is_converted::<OPEN>),
     ("a resting slot converted", is_converted::<RESTING>),
@@ -31,6 +32,8 @@ pub const OCCASIONS: [(&str, CameUp); 16] = [
     ("20 across the century", no_room),
     ("a slot reused across the century", reused),
     ("26 across the century", load_too_old),
+    ("a check refused by 4 alone", short_of_answers),
+    ("a good check, every record turned away", turned_away),
 ];
 
 /// The register that is lent; every call has it first.
@@ -112,7 +115,7 @@ fn answered<'a>(
     outcome: &'a Outcome,
     answer: u8,
 ) -> impl Iterator<Item = &'a [u8]> {
-    let taken = call.op == Op::TakeData && outcome.refusal() == 0;
+    let taken = call.op == Op::ApplyData && outcome.refusal() == 0;
     let parts = taken.then(|| {
         let applied = outcome.returned[3] as usize;
         (&call.lent[2][EDGE..], &outcome.lent[3][..applied])
@@ -157,7 +160,7 @@ fn no_room(call: &Call, outcome: &Outcome) -> bool {
 
 /// A number rests since the last century, and a file of this gave its slot away.
 fn reused(call: &Call, outcome: &Outcome) -> bool {
-    call.op == Op::TakeData
+    call.op == Op::ApplyData
         && outcome.refusal() == 0
         && is_this_century(file_date(call))
         && slots(register(call))
@@ -173,4 +176,20 @@ fn load_too_old(call: &Call, outcome: &Outcome) -> bool {
         && outcome.refusal() == 26
         && is_last_century(&call.lent[1])
         && slots(register(call)).any(|slot| is_live(slot) && slot_day(slot).0 >= MOVED)
+}
+
+/// With more answers the same check is good.
+fn short_of_answers(call: &Call, outcome: &Outcome) -> bool {
+    let is_check = matches!(call.op, Op::CheckData | Op::CheckGuide);
+    is_check && outcome.refusal() == 4 && {
+        let mut longer = call.clone();
+        longer.lent[3] = vec![0; MOST_RECORDS];
+        longer.run(&Model::<Described>::new(), 0).refusal() == 0
+    }
+}
+
+/// The check before it was good, or it would not have foretold this.
+fn turned_away(call: &Call, outcome: &Outcome) -> bool {
+    let is_apply = call.op.check().is_some();
+    is_apply && outcome.returned[3] > 0 && outcome.returned[4] == 0
 }

@@ -15,7 +15,7 @@ fn shape(op: Op, name: &str) -> Option<Shape> {
     let (edge, part) = match (name, op) {
         ("register", _) => (0, REGISTER_SLOT),
         ("guide", _) => (0, GUIDE_SLOT),
-        ("file", Op::TakeData) => (EDGE, RECORD),
+        ("file", op) if op.has_records() => (EDGE, RECORD),
         ("file", _) => (EDGE, ROW),
         _ => return None,
     };

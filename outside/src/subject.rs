@@ -3,10 +3,30 @@
 use crate::model::{self, Converted, Found, Loaded, Rules, Tagged, Taken};
 use std::marker::PhantomData;
 
-/// The seven functions.
+/// The nine functions.
 pub trait Subject {
-    /// Takes a data file.
-    fn take_data(
+    /// Checks a data file.
+    fn check_data(
+        &self,
+        register: &[u8],
+        guide: &[u8],
+        file: &[u8],
+        answers: &[u8],
+        last: u32,
+    ) -> Taken;
+
+    /// Checks a guide file.
+    fn check_guide(
+        &self,
+        register: &[u8],
+        guide: &[u8],
+        file: &[u8],
+        answers: &[u8],
+        last: u32,
+    ) -> Taken;
+
+    /// Applies a data file.
+    fn apply_data(
         &self,
         register: &mut [u8],
         guide: &[u8],
@@ -15,8 +35,8 @@ pub trait Subject {
         last: u32,
     ) -> Taken;
 
-    /// Takes a guide file.
-    fn take_guide(
+    /// Applies a guide file.
+    fn apply_guide(
         &self,
         register: &[u8],
         guide: &mut [u8],
@@ -65,7 +85,29 @@ impl<R> Default for Model<R> {
 }
 
 impl<R: Rules> Subject for Model<R> {
-    fn take_data(
+    fn check_data(
+        &self,
+        register: &[u8],
+        guide: &[u8],
+        file: &[u8],
+        answers: &[u8],
+        last: u32,
+    ) -> Taken {
+        model::check_data::<R>(register, guide, file, answers, last)
+    }
+
+    fn check_guide(
+        &self,
+        register: &[u8],
+        guide: &[u8],
+        file: &[u8],
+        answers: &[u8],
+        last: u32,
+    ) -> Taken {
+        model::check_guide::<R>(register, guide, file, answers, last)
+    }
+
+    fn apply_data(
         &self,
         register: &mut [u8],
         guide: &[u8],
@@ -73,10 +115,10 @@ impl<R: Rules> Subject for Model<R> {
         answers: &mut [u8],
         last: u32,
     ) -> Taken {
-        model::take_data::<R>(register, guide, file, answers, last)
+        model::apply_data::<R>(register, guide, file, answers, last)
     }
 
-    fn take_guide(
+    fn apply_guide(
         &self,
         register: &[u8],
         guide: &mut [u8],
@@ -84,7 +126,7 @@ impl<R: Rules> Subject for Model<R> {
         answers: &mut [u8],
         last: u32,
     ) -> Taken {
-        model::take_guide::<R>(register, guide, file, answers, last)
+        model::apply_guide::<R>(register, guide, file, answers, last)
     }
 
     fn lookup(&self, register: &[u8], number: &[u8]) -> Found {

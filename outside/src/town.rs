@@ -2,7 +2,7 @@
 
 use crate::gen::{file, put};
 use crate::model::layout::{record, row, Field, GUIDE_SLOT, RECORD, REGISTER_SLOT, ROW, SLOT_HEAD};
-use crate::model::{take_data, take_guide, Described, Former, Rules};
+use crate::model::{apply_data, apply_guide, Described, Former, Rules};
 
 /// Rows of one street.
 const ROWS_A_STREET: usize = 64;
@@ -122,7 +122,7 @@ pub fn guide(rows: usize) -> Vec<u8> {
     let mut guide = vec![0; rows * GUIDE_SLOT];
     let mut answers = vec![0; rows];
     let register = [0; REGISTER_SLOT];
-    let taken = take_guide::<Described>(&register, &mut guide, &guide_file(rows), &mut answers, 0);
+    let taken = apply_guide::<Described>(&register, &mut guide, &guide_file(rows), &mut answers, 0);
     assert_eq!(taken.done as usize, rows);
     guide
 }
@@ -144,7 +144,7 @@ fn filled<R: Rules>(slots: usize, guide: &[u8]) -> Vec<u8> {
     let all = file(b"010124", 1, &all.collect::<Vec<u8>>(), slots);
     let mut register = vec![0; slots * REGISTER_SLOT];
     let mut answers = vec![0; slots];
-    let taken = take_data::<R>(&mut register, guide, &all, &mut answers, 0);
+    let taken = apply_data::<R>(&mut register, guide, &all, &mut answers, 0);
     assert_eq!(taken.done as usize, slots);
     assert!(register[(slots - 1) * REGISTER_SLOT + SLOT_HEAD] == b'I');
     register

@@ -18,6 +18,18 @@ pub struct Vector {
     pub kind: String,
 }
 
+impl Vector {
+    /// The check of the same bytes, if the call is an apply, which it must foretell.
+    pub fn check(&self) -> Option<Vector> {
+        let call = self.call.check()?;
+        Some(Vector {
+            expected: call.foretelling(&self.expected),
+            kind: format!("foretells {}", self.kind),
+            call,
+        })
+    }
+}
+
 /// Reads one line.
 pub fn parse(line: &str) -> Option<Vector> {
     let (line, kind) = line.split_once(" # ").unwrap_or((line, ""));
@@ -144,9 +156,12 @@ mod tests {
     #[test]
     fn a_written_line_reads_back() {
         let mut world = World::new(3);
+        let (guide, data) = (world.apply_guide(), world.apply_data());
         let calls = [
-            world.take_guide(),
-            world.take_data(),
+            guide.check().expect("an apply"),
+            data.check().expect("an apply"),
+            guide,
+            data,
             world.lookup(),
             world.write_load(),
             world.convert(),
@@ -160,6 +175,18 @@ mod tests {
             assert_eq!((read.expected, read.call.given), (outcome, call.given));
             assert_eq!(read.kind, "kind");
         }
+    }
+
+    #[test]
+    fn an_apply_has_a_check_that_foretells_it() {
+        let line = "apply_data last=8 register=00 guide= file= answers=77 -> refusal=0 place=0 \
+                    position=0 n=1 done=1 undone=0 last=9 register=01 answers=00 # kind";
+        let check = parse(line).and_then(|vector| vector.check());
+        let check = check.expect("an apply");
+        assert_eq!(check.call.op, Op::CheckData);
+        assert_eq!(check.expected.returned, [0, 0, 0, 1, 0, 0, 8]);
+        assert_eq!(check.expected.lent, check.call.lent);
+        assert!(check.check().is_none());
     }
 
     #[test]

@@ -99,11 +99,11 @@ fn is_of_shared_years(call: &Call) -> bool {
     let shared =
         |date: &[u8]| day::<Former<Described>>(date).is_none_or(|number| number <= LAST_FORMER_DAY);
     match (call.op, &call.lent[..]) {
-        (Op::TakeData, [_, _, file, _]) if file.len() > EDGE => {
+        (Op::ApplyData, [_, _, file, _]) if file.len() > EDGE => {
             let mut records = file[EDGE..].chunks_exact(RECORD);
             shared(header::DATE.of(file)) && records.all(|whole| shared(record::DATE.of(whole)))
         }
-        (Op::TakeGuide, [_, _, file, _]) if file.len() > EDGE => shared(header::DATE.of(file)),
+        (Op::ApplyGuide, [_, _, file, _]) if file.len() > EDGE => shared(header::DATE.of(file)),
         (Op::WriteLoad, [_, date, _, _]) => shared(date),
         _ => true,
     }
@@ -136,10 +136,10 @@ fn converting_first_or_last_is_the_same() {
         let mut world = World::sized(seed, slots, slots).into_old(LAST_FORMER_DAY);
         for _ in 0..30 {
             let mut call = match random.below(8) {
-                0 | 1 => world.take_guide(),
+                0 | 1 => world.apply_guide(),
                 2 => world.lookup(),
                 3 => world.write_load(),
-                _ => world.take_data(),
+                _ => world.apply_data(),
             };
             // A damaged register may have no conversion.
             let sound =

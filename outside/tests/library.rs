@@ -9,7 +9,7 @@ use outside::subject::Model;
 const MODEL: Model<Described> = Model::new();
 
 fn does_as_the_model(mut runs: impl Runs) {
-    if let Err(finding) = runs.explore(7, |cases| cases >= 20_000) {
+    if let Err(finding) = runs.explore(7, |cases| cases >= 40_000) {
         panic!("{}\n{}", finding.what, finding.line);
     }
     assert_eq!(runs.notes().missing(), [""; 0]);

@@ -4,8 +4,9 @@
 use outside::coverage::Notes;
 use outside::explore::{Explorer, Runs};
 use outside::model::rules::{
-    ClashWithoutParity, CpdFrom1960, Described, NinetyOneDays, NoCycleWrap, NoLeapYear,
-    NoLeftJustify, PivotOneOff, RestingForgotten, TrimmedFirst, UnfitFirst,
+    AnswersUnmeasured, ClashWithoutParity, CpdFrom1960, CycleFromCheck, Described, NinetyOneDays,
+    NoCycleWrap, NoLeapYear, NoLeftJustify, PivotOneOff, RestingForgotten, TrimmedFirst,
+    UnfitFirst,
 };
 use outside::model::Rules;
 use outside::random::Random;
@@ -14,7 +15,7 @@ use outside::subject::Model;
 const GOOD: Model<Described> = Model::new();
 
 fn is_quiet_and_brings_everything_up(mut runs: impl Runs) {
-    if let Err(finding) = runs.explore(1, |cases| cases >= 20_000) {
+    if let Err(finding) = runs.explore(1, |cases| cases >= 40_000) {
         panic!("{}\n{}", finding.what, finding.line);
     }
     assert_eq!(runs.notes().missing(), [""; 0]);
@@ -57,7 +58,31 @@ fn every_fault_is_seen() {
     assert!(is_seen_in_files::<NoCycleWrap>());
     assert!(is_seen_in_files::<PivotOneOff>());
     assert!(is_seen_in_files::<RestingForgotten>());
+    assert!(is_seen_in_files::<CycleFromCheck>());
+    assert!(is_seen_in_files::<AnswersUnmeasured>());
     assert!(is_seen_in_texts::<UnfitFirst>());
     assert!(is_seen_in_texts::<TrimmedFirst>());
     assert!(is_seen_in_texts::<CpdFrom1960>());
+}
+
+/// What is seen where both sides have the fault, so that they never differ.
+fn seen_in_itself<R: Rules>() -> String {
+    let faulty = Model::<R>::new();
+    let mut runs = Explorer::of_files(&faulty, &faulty);
+    let found = runs.explore(1, |cases| cases >= 20_000);
+    found.err().map_or(String::new(), |finding| finding.what)
+}
+
+#[test]
+fn a_check_that_does_not_foretell_is_seen_in_itself() {
+    let words = "the check does not foretell the apply: \
+                 (refusal place position n done undone last) expected ";
+    assert_eq!(
+        seen_in_itself::<CycleFromCheck>(),
+        format!("{words}[0, 0, 0, 0, 0, 0, 0], got [0, 0, 0, 0, 0, 0, 1]")
+    );
+    assert_eq!(
+        seen_in_itself::<AnswersUnmeasured>(),
+        format!("{words}[4, 0, 0, 0, 0, 0, 1], got [0, 0, 0, 1, 0, 0, 1]")
+    );
 }

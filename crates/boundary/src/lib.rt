@@ -1,5 +1,7 @@
-// The C face of the takes, the load file, the conversion and the tagged record: nothing but calls.
+// The C face of checks and applies, the load file, the conversion and the tagged record: nothing but calls.
+ghost use Rattle.rules.specs.declared.Kind.the-variants.{Data, Guide};
 ghost use Rattle.rules.specs.Takes.{TakesData, TakesGuide};
+ghost use Rattle.rules.specs.Checks.{Checks};
 ghost use Rattle.rules.specs.Loads.{WritesLoad};
 ghost use Rattle.rules.specs.Converts.{Converts};
 ghost use Rattle.tag_rules.specs.Reading.{ReadsText};
@@ -10,7 +12,20 @@ use rules::Taken;
 use tag_rules::Tagged;
 
 #[no_mangle]
-pub extern "C" fn hakkiyolu_take_data(
+pub extern "C" fn hakkiyolu_check_data(
+    register: &[u8],
+    guide: &[u8],
+    file: &[u8],
+    answers: &[u8],
+    last: u32,
+) -> Taken
+    ensures { λ r. ⌜ Checks Data (now (register .entry)) (now (guide .entry)) (now (file .entry)) (now (answers .entry)) last r ⌝ }
+{
+    taking::take::check_data(register, guide, file, answers, last)
+}
+
+#[no_mangle]
+pub extern "C" fn hakkiyolu_apply_data(
     register: &mut [u8],
     guide: &[u8],
     file: &[u8],
@@ -19,11 +34,24 @@ pub extern "C" fn hakkiyolu_take_data(
 ) -> Taken
     ensures { λ r. ⌜ TakesData (now (register .entry)) (now (guide .entry)) (now (file .entry)) (now (answers .entry)) last r (now (register .exit)) (now (answers .exit)) ⌝ }
 {
-    taking::take::take_data(&mut register[..], guide, file, &mut answers[..], last)
+    taking::take::apply_data(&mut register[..], guide, file, &mut answers[..], last)
 }
 
 #[no_mangle]
-pub extern "C" fn hakkiyolu_take_guide(
+pub extern "C" fn hakkiyolu_check_guide(
+    register: &[u8],
+    guide: &[u8],
+    file: &[u8],
+    answers: &[u8],
+    last: u32,
+) -> Taken
+    ensures { λ r. ⌜ Checks Guide (now (register .entry)) (now (guide .entry)) (now (file .entry)) (now (answers .entry)) last r ⌝ }
+{
+    taking::take::check_guide(register, guide, file, answers, last)
+}
+
+#[no_mangle]
+pub extern "C" fn hakkiyolu_apply_guide(
     register: &[u8],
     guide: &mut [u8],
     file: &[u8],
@@ -32,7 +60,7 @@ pub extern "C" fn hakkiyolu_take_guide(
 ) -> Taken
     ensures { λ r. ⌜ TakesGuide (now (register .entry)) (now (guide .entry)) (now (file .entry)) (now (answers .entry)) last r (now (guide .exit)) (now (answers .exit)) ⌝ }
 {
-    taking::take::take_guide(register, &mut guide[..], file, &mut answers[..], last)
+    taking::take::apply_guide(register, &mut guide[..], file, &mut answers[..], last)
 }
 
 #[no_mangle]

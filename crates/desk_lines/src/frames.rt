@@ -54,7 +54,13 @@ fn collect(m: Marks, collection: &mut [u8], out: &mut [u8], bytes: &[u8]) -> Fed
 }
 
 // 02: the collection is taken as a guide file, and emptied.
-fn take_guide(m: Marks, register: &[u8], guide: &mut [u8], collection: &[u8], out: &mut [u8]) -> Fed
+fn apply_guide(
+    m: Marks,
+    register: &[u8],
+    guide: &mut [u8],
+    collection: &[u8],
+    out: &mut [u8],
+) -> Fed
     requires { ⌜ (m .collected ≤ length (now collection)) × (mostSaid ≤ length (now out)) ⌝ }
     ensures { λ r. ⌜ ((l : List ℕ) → Lays takingGuide m
         (benchOf (now (register .entry)) (now (guide .entry)) (now (collection .entry)) l (now (out .entry))) r
@@ -62,7 +68,7 @@ fn take_guide(m: Marks, register: &[u8], guide: &mut [u8], collection: &[u8], ou
 {
     let mut answers = [0; MOST_ANSWERS];
     let n = m.collected;
-    let t = taking::take::take_guide(
+    let t = taking::take::apply_guide(
         register,
         &mut guide[..],
         &collection[0..n],
@@ -75,7 +81,7 @@ fn take_guide(m: Marks, register: &[u8], guide: &mut [u8], collection: &[u8], ou
 }
 
 // 03: the collection is taken as a data file, and emptied.
-fn take_data(m: Marks, register: &mut [u8], guide: &[u8], collection: &[u8], out: &mut [u8]) -> Fed
+fn apply_data(m: Marks, register: &mut [u8], guide: &[u8], collection: &[u8], out: &mut [u8]) -> Fed
     requires { ⌜ (m .collected ≤ length (now collection)) × (mostSaid ≤ length (now out)) ⌝ }
     ensures { λ r. ⌜ ((l : List ℕ) → Lays takingData m
         (benchOf (now (register .entry)) (now (guide .entry)) (now (collection .entry)) l (now (out .entry))) r
@@ -83,7 +89,7 @@ fn take_data(m: Marks, register: &mut [u8], guide: &[u8], collection: &[u8], out
 {
     let mut answers = [0; MOST_ANSWERS];
     let n = m.collected;
-    let t = taking::take::take_data(
+    let t = taking::take::apply_data(
         &mut register[..],
         guide,
         &collection[0..n],
@@ -132,7 +138,7 @@ pub fn framed(
         return unread(m, &mut out[..]);
     }
     if code == TAKE_GUIDE {
-        return take_guide(
+        return apply_guide(
             m,
             &register[..],
             &mut guide[..],
@@ -141,7 +147,7 @@ pub fn framed(
         );
     }
     if code == TAKE_DATA {
-        return take_data(
+        return apply_data(
             m,
             &mut register[..],
             &guide[..],

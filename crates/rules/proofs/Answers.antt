@@ -39,11 +39,14 @@ use Rattle.rules.specs.Slots.{slots, goodLength, registerSound}
 use Rattle.rules.specs.Records.{filedOf, isInsert, findNumber, findRow, freeAt, reusableAt, findFree, findReusable, findSpare, table, answerOf, Step, step, applied}
 use Rattle.rules.specs.Rows.{rowCodeOf, findClash, findVacant, findSame, insertTable, deleteTable, rowAnswerOf, RowStep, rowApplied}
 use Rattle.rules.specs.Takes.{Stores, lineFault, lineAt, linesIn, refuse, checked, lineApplied, answerAt, answersTo, after, refusedFile, appliedFile, onChecked, taken}
+use Rattle.rules.specs.Checks.{AllForetold}
 use Rattle.rules.specs.Lookups.{isNumber, seenIn, unseen, seen, packed}
 use Rattle.rules.specs.Loads.{loadSize, loadHeader, laterAt, headerRefusal, loadRefusal, refusedLoad, writtenLoad, loaded}
 use Rattle.rules.specs.Answered.{takeNumbers, answerNumbers, loadNumbers, lookupNumbers, TakeRefused, NoneHits, TakeDone, TakeAnswered, TakesAnswer, LinesAnswer, Full, FullsAnswer, LoadAnswered, LoadsAnswer, LookupsAnswer, OneData, OneGuide, OneLoad, OneLookup}
+use Rattle.rules.specs.Answered.{ChecksAnswer, OneCheck}
 use Rattle.rules.proofs.WalkLaws.{clash-bool, find-none, find-nowhere, is-nothing, numbersIn, first-in, hitBy, first-hit, first-some}
 use Rattle.rules.proofs.TakeLaws.{line-not, answers-length, answer-is, done-undone}
+use Rattle.rules.proofs.CheckLaws.{all-foretold}
 use Rattle.rules.proofs.FaultLaws.{line-fault-starts}
 use Rattle.rules.proofs.GoodLaws.{BadLine, checked-by, passed-good}
 use Rattle.rules.proofs.LookupLaws.{seen-bounded}
@@ -258,6 +261,29 @@ take-answered k s f answers last =
     (taken-file k s f answers last)
     refl
 
+-- ---- a check
+
+-- DEMAND 1, of a check: it says what the take that it foretells would say, and that one is answered
+pub check-answered : ChecksAnswer
+unfolding ChecksAnswer TakesAnswer AllForetold
+check-answered k s f answers last =
+    let a = take-answered k s f answers last in
+    let e = all-foretold k s f answers last in
+    record {
+      number = rw (e .refusal) (a .number);
+      refused = λ x. e .records ∙ a .refused (λ z. x (e .refusal ∙ z)) .records;
+      good = λ x. e .records ∙ a .done (sym (e .refusal) ∙ x) .1 .records;
+      passed = λ x. let d = a .done (sym (e .refusal) ∙ x) in (d .0, d .1 .passed);
+      passes = λ h p. e .refusal ∙ a .taken h p;
+      placed = λ x.
+          let p = a .placed (sym (e .refusal) ∙ x) in
+          record { from = rw (e .place) (p .from); to = rw (e .place) (p .to); field = rw (e .position) (p .field) };
+      unplaced = λ x. let p = a .unplaced (λ z. x (e .refusal ∙ z)) in (e .place ∙ p .0, e .position ∙ p .1);
+      done = e .done;
+      undone = e .undone;
+      last = e .last;
+    }
+
 -- ---- the load file
 
 -- a refusal of a load file has one of its numbers
@@ -337,7 +363,11 @@ pub one-guide : OneGuide
 unfolding OneGuide
 one-guide R G f answers last t u S T a b p q = one-take p q
 
--- and so does that of a load file, and of a lookup
+-- and so does that of a check, of a load file and of a lookup
+pub one-check : OneCheck
+unfolding OneCheck
+one-check k R G f answers last t u p q = p ∙ sym q
+
 pub one-load : OneLoad
 unfolding OneLoad
 one-load R date company c out l m a b p q = (p .0 ∙ sym (q .0), p .1 ∙ sym (q .1))

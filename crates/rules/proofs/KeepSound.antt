@@ -409,7 +409,7 @@ sound-file f o p = go (checked (f .kind) (o .stores) (f .bytes) (length (f .answ
     go (Refused r) e = rw (refused-stores (f .kind) (o .stores) (f .bytes) (f .answers) (f .last) r e) p
 
 -- a run of files
-sound-files : (fs : List File) (o : Office) → SoundStores (o .stores) → SoundStores (run fs o .stores)
+pub sound-files : (fs : List File) (o : Office) → SoundStores (o .stores) → SoundStores (run fs o .stores)
 unfolding run
 sound-files [] o p = p
 sound-files (f ∷ fs) o p = sound-files fs (taking f o) (sound-file f o p)

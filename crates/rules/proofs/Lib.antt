@@ -6,6 +6,7 @@ pub mod ClashLaws
 pub mod View
 pub mod GoodLaws
 pub mod TakeLaws
+pub mod CheckLaws
 pub mod LookupLaws
 pub mod LoadLength
 pub mod FaultLaws
@@ -16,6 +17,7 @@ pub mod Passing
 pub mod Keep
 pub mod SoundLaws
 pub mod KeepSound
+pub mod Overnight
 pub mod Shown
 pub mod Incident
 pub mod FrameLaws

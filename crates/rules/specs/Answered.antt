@@ -1,7 +1,8 @@
 -- The brief's first demand, as statements: "Every file, register and guide handed over, however damaged, is answered. In taking and
 -- writing, a bad one is refused by a number from the description, and a refused file changes no byte lent to us. A refused record
--- changes only its own answer byte." Proved in `proofs/Answers`, for all inputs: take-answered, line-answered, load-answered,
--- full-answered, lookup-answered; and one outcome for each of the four promises: one-data, one-guide, one-load, one-lookup.
+-- changes only its own answer byte." Proved in `proofs/Answers`, for all inputs: take-answered, check-answered, line-answered,
+-- load-answered, full-answered, lookup-answered; and one outcome for each of the five promises: one-data, one-guide, one-check,
+-- one-load, one-lookup. What a check of the evening is worth in the morning is proved in `proofs/Overnight`.
 -- Assumes nothing.
 use Prim.Native.Nat.{ℕ, _+_, _*_, _/_, _%_, _≤_, _<_}
 use mathlib.Core.Path.{_≡_}
@@ -30,8 +31,10 @@ use Rattle.rules.specs.declared.Loaded.{Loaded}
 use Rattle.rules.specs.Slots.{slots, slotAt, stateOf, isFree, registerSound, guideSound}
 use Rattle.rules.specs.Records.{findNumber, isReusable, answerOf}
 use Rattle.rules.specs.Takes.{Stores, Outcome, Answered, lineTable, lineFault, linesIn, goodFile, headerLine, trailerLine, lineAt, lineApplied, answerAt, taken, TakesData, TakesGuide}
+use Rattle.rules.specs.Checks.{foretold, Checks}
 use Rattle.rules.specs.Lookups.{seen, packed, LooksUp}
 use Rattle.rules.specs.Loads.{Load, loaded, WritesLoad}
+use Rattle.rules.specs.Demands.{File, Office, run}
 
 -- ---- the numbers
 
@@ -109,6 +112,43 @@ unfoldable pub TakesAnswer : Type 0
 TakesAnswer =
     (k : Kind) (s : Stores) (f answers : List ℕ) (last : ℕ) → TakeAnswered k s f answers last (taken k s f answers last)
 
+-- ---- a check (2026-03)
+
+-- a check is refused by a number of the table, with a count of 0, or "returns n"; it is good exactly where none of the nine tests hits;
+-- done and undone are 0 and the last cycle is as given in either case
+pub record CheckAnswered (k : Kind) (s : Stores) (f answers : List ℕ) (given : ℕ) (c : Taken) : Type 0 where
+  pub number : memberOf (c .refusal) takeNumbers ≡ true
+  pub refused : c .refusal ≢ 0 → c .records ≡ 0
+  pub good : c .refusal ≡ 0 → c .records ≡ linesIn k f
+  pub passed : c .refusal ≡ 0 → (h : Header) × NoneHits k s f (length answers) (givenCycle given) h
+  pub passes : (h : Header) → NoneHits k s f (length answers) (givenCycle given) h → c .refusal ≡ 0
+  pub placed : c .refusal ≡ 9 → Placed k f c
+  pub unplaced : c .refusal ≢ 9 → (c .place ≡ 0) × (c .position ≡ 0)
+  pub done : c .done ≡ 0
+  pub undone : c .undone ≡ 0
+  pub last : c .last ≡ given
+
+unfoldable pub ChecksAnswer : Type 0
+ChecksAnswer =
+    (k : Kind) (s : Stores) (f answers : List ℕ) (last : ℕ) → CheckAnswered k s f answers last (foretold k s f answers last)
+
+-- "a file checked the evening before and applied after breakfast": m are the stores of the morning. Whatever the last cycle is by then,
+-- the file is refused by 6 or not at all: not with the one that it was checked with, and by 6 with the one that another file of its kind
+-- has left, taken after the same last cycle.
+pub record Morning (k : Kind) (m : Stores) (f answers : List ℕ) (last : ℕ) : Type 0 where
+  pub only : (now : ℕ) → memberOf (taken k m f answers now .result .refusal) (0 ∷ 6 ∷ []) ≡ true
+  pub applied : taken k m f answers last .result .refusal ≡ 0
+  pub overtaken : (s : Stores) (g a : List ℕ) → taken k s g a last .result .refusal ≡ 0
+      → taken k m f answers (taken k s g a last .result .last) .result .refusal ≡ 6
+
+-- a file that was checked good, whatever files of either kind were taken or refused overnight
+unfoldable pub Overnight : Type 0
+Overnight =
+    (k : Kind) (o : Office) (files : List File) (f answers : List ℕ) (last : ℕ)
+    → foretold k (o .stores) f answers last .refusal ≡ 0 → Morning k (run files o .stores) f answers last
+
+-- ---- a record
+
 -- "A refused record changes only its own answer byte": it leaves both stores as they were
 pub record LineAnswered (k : Kind) (s : Stores) (a : Answered) : Type 0 where
   pub number : memberOf (a .answer) (answerNumbers k) ≡ true
@@ -169,6 +209,11 @@ unfoldable pub OneGuide : Type 0
 OneGuide =
     (R G f answers : List ℕ) (last : ℕ) (t u : Taken) (S T a b : List ℕ)
     → TakesGuide R G f answers last t S a → TakesGuide R G f answers last u T b → (t ≡ u) × ((S ≡ T) × (a ≡ b))
+
+unfoldable pub OneCheck : Type 0
+OneCheck =
+    (k : Kind) (R G f answers : List ℕ) (last : ℕ) (t u : Taken)
+    → Checks k R G f answers last t → Checks k R G f answers last u → t ≡ u
 
 unfoldable pub OneLoad : Type 0
 OneLoad =

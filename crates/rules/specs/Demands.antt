@@ -3,8 +3,8 @@
 -- `Keep` has demand3 : Demand3 n m (run files (start n m)); `KeepSound` has run-sound : SoundStores (run files (start n m) .stores)
 -- and run-not-unsound : NoneUnsound (run files (start n m) .stores), for 1 to 4096 slots of each kind; `Incident` has
 -- incident : Guarded R G h r, for any stores, and holder : HolderKept (run files (start n m)); `Shown` has
--- run-shows : AllShown (run files (start n m)), for 1 to 4096 slots. The crate `witnesses` computes one run, and that it meets what
--- these theorems ask for.
+-- run-shows : AllShown (run files (start n m)), for 1 to 4096 slots. A file of a run is one that was applied; a check changes nothing, so
+-- it is none. The crate `witnesses` computes one run, and that it meets what these theorems ask for.
 -- Assumes nothing.
 use Prim.Native.Nat.{ℕ, _+_, _*_, _<_}
 use mathlib.Core.Path.{_≡_}

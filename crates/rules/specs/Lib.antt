@@ -4,6 +4,7 @@ pub mod Covers
 pub mod Records
 pub mod Rows
 pub mod Takes
+pub mod Checks
 pub mod Lookups
 pub mod Loads
 pub mod History

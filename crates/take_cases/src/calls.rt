@@ -1,4 +1,4 @@
-// A call: its line names the take and what it is lent, `take_data last=0 register=(00*520) ..`.
+// A call: its line names it and what it is lent, `apply_data last=0 register=(00*520) ..`.
 use crate::read;
 use crate::write;
 use rules::Taken;
@@ -6,25 +6,31 @@ use taking::take;
 
 const SPACE: u8 = b' ';
 
-// Whether the line is a call of take_data; else it is one of take_guide.
-fn is_data(line: &[u8]) -> bool {
+// The call's name, the line's first word.
+fn name(line: &[u8]) -> &[u8] {
     let e = bytes::scan::find(line, 0, line.len(), SPACE);
-    text::same(&line[0..e], b"take_data")
+    &line[0..e]
 }
 
-// What the take returns.
+// What the call of this name returns.
 fn taken(
-    data: bool,
+    name: &[u8],
     register: &mut [u8],
     guide: &mut [u8],
     file: &[u8],
     answers: &mut [u8],
     last: u32,
 ) -> Taken {
-    if data {
-        return take::take_data(&mut register[..], &guide[..], file, &mut answers[..], last);
+    if text::same(name, b"check_data") {
+        return take::check_data(&register[..], &guide[..], file, &answers[..], last);
     }
-    take::take_guide(&register[..], &mut guide[..], file, &mut answers[..], last)
+    if text::same(name, b"check_guide") {
+        return take::check_guide(&register[..], &guide[..], file, &answers[..], last);
+    }
+    if text::same(name, b"apply_data") {
+        return take::apply_data(&mut register[..], &guide[..], file, &mut answers[..], last);
+    }
+    take::apply_guide(&register[..], &mut guide[..], file, &mut answers[..], last)
 }
 
 fn returned(t: Taken) {
@@ -40,9 +46,8 @@ fn returned(t: Taken) {
 // A line's call with its parts: what it returned, and what each part holds then.
 fn call(line: &[u8], register: &mut [u8], guide: &mut [u8], file: &[u8], answers: &mut [u8]) {
     let last = read::number(read::value(line, b"last="));
-    let data = is_data(line);
     returned(taken(
-        data,
+        name(line),
         &mut register[..],
         &mut guide[..],
         file,

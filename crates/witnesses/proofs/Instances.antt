@@ -8,16 +8,20 @@ use lib.ListN.{getD, replicate}
 use Rattle.layout.specs.declared.frame.Header.{Header}
 use Rattle.rules.specs.Slots.{slots, slotAt, recordOf, isHeld}
 use Rattle.rules.specs.Records.{applied}
+use Rattle.rules.specs.declared.Kind.the-variants.{Data, Guide}
+use Rattle.rules.specs.Takes.{taken}
 use Rattle.rules.specs.Lookups.{seen}
 use Rattle.rules.specs.History.{Item, entry, row}
 use Rattle.rules.specs.Demands.{Office, start, run, liveAt, Lies, AllLie, IsLast, AllLast, InState, Exactly, Passed, OnlyPassed}
 use Rattle.rules.specs.Demands.{SoundStores, Shows, AllShown, TurnedAway, Guarded, Holder, HolderKept}
+use Rattle.rules.specs.Answered.{Morning, Overnight}
 use Rattle.rules.specs.Demands.{codeIs, newest, lastOf, lastStored, lastIs, heldBy, EveryOf}
 use Rattle.rules.proofs.Keep.{demand3}
 use Rattle.rules.proofs.KeepSound.{run-sound}
+use Rattle.rules.proofs.Overnight.{overnight}
 use Rattle.rules.proofs.Shown.{run-shows}
 use Rattle.rules.proofs.Incident.{incident, holder}
-use Rattle.witnesses.proofs.Witness.{line, rowLine, files, seen as run-seen}
+use Rattle.witnesses.proofs.Witness.{line, rowLine, guideFile, dataFile, deleteFile, files, seen as run-seen}
 
 -- what the run leaves
 abbrev office : Office
@@ -96,3 +100,19 @@ late-answer = refl
 pub since-migrate : Holder office since (line 77 66)
 unfolding run-seen HolderKept codeIs EveryOf
 since-migrate = holder 1 1 files since (line 77 66) past refl refl (λ e. refl, tt)
+
+-- ---- evening and morning
+
+-- the file of the D is checked good of empty stores; overnight the run's files are taken, a data file of the same cycle among them
+pub morning : Morning Data (office .stores) deleteFile (1 ∷ []) 0
+unfolding run-seen Overnight
+morning = overnight Data (start 1 1) files deleteFile (1 ∷ []) 0 refl
+
+-- what the guide file left, which that data file was taken after
+abbrev ruled : Office
+ruled = run (record { kind = Guide; bytes = guideFile; answers = 1 ∷ []; last = 0 } ∷ []) (start 1 1)
+
+-- so the D is refused by 6 after the last cycle that it returned, 1
+pub overtaken : taken Data (office .stores) deleteFile (1 ∷ []) 1 .result .refusal ≡ 6
+unfolding run-seen
+overtaken = morning .overtaken (ruled .stores) dataFile (1 ∷ 1 ∷ 1 ∷ 1 ∷ 1 ∷ []) refl

@@ -11,12 +11,14 @@ use Rattle.layout.specs.Fields.{functionOf, numberOf, houseOf, streetOf, placeO
 use Rattle.layout.specs.Frames.{dateOf as frameDateOf, nameOf, headerOf, sameFrame, trailerOf, frameWith, headerWith, trailerWith}
 use Rattle.layout.specs.Rules.{isDirection, isDate, isCycle, isTally, keepsFrame, keepsOther, keeps, houseFault, endFault, highFault, parityFault, isWhole, faultBy, faultIn, recordFault, rowFault}
 use Rattle.rules.specs.declared.Kind.the-variants.{Data, Guide}
+use Rattle.rules.specs.declared.Taken.{Taken}
 use Rattle.rules.specs.Walks.{find, walked, count, first}
 use Rattle.rules.specs.Slots.{slotAt, place, withPlace, goodLength, stateOf, slotDay, recordOf, slotOf, isZero, fitsSlot, dayFits, usedSound, slotSound, unsoundSlot, registerSound, isPresent, isVacant, rowOf, rowSlotOf, freeRowSlot, presentSound, rowSlotSound, unsoundRowSlot, guideSound}
 use Rattle.rules.specs.Covers.{hits, covers, sameStreet, meetFrom, meets, clash, sameRow}
 use Rattle.rules.specs.Records.{filedOf, hasNumber, findNumber, isOver, findRow, freeAt, isReusable, reusableAt, findFree, findReusable, findSpare, answerOf, shown, registerAfter, step, applied}
 use Rattle.rules.specs.Rows.{rowCodeOf, clashAt, findClash, vacantAt, findVacant, sameAt, findSame, entryUnder, findEntry, rowApplied}
 use Rattle.rules.specs.Takes.{linesIn, goodFile, headerLine, trailerLine, lineAt, badLine, linesChecked, trailerChecked, frameChecked, checked, lineApplied, after, answerAt, answersTo, zerosIn, othersIn, Outcome, refusedFile, appliedFile, taken}
+use Rattle.rules.specs.Checks.{foretold}
 use Rattle.rules.specs.Lookups.{isNumber, seenIn, seen as lookup, packed}
 use Rattle.rules.specs.Loads.{entryAt, entriesIn, linesTo, headerFor, trailerFor, loadFile, loadSize, loadHeader, laterAt, headerRefusal, loadRefusal, Load, loaded}
 use Rattle.rules.specs.History.{historyTo, historyAfter}
@@ -55,7 +57,7 @@ abbrev pub guideFile : List ℕ
 guideFile = opening ++ (rowLine ++ closing 49)
 
 -- I and U of A, M of B, then C of A and C of B
-abbrev dataFile : List ℕ
+abbrev pub dataFile : List ℕ
 dataFile = opening ++ (line 73 65 ++ (line 85 65 ++ (line 77 66 ++ (line 67 65 ++ (line 67 66 ++ closing 53)))))
 
 -- both files
@@ -69,14 +71,15 @@ files =
 abbrev badFile : List ℕ
 badFile = opening ++ (line 65 65 ++ closing 49)
 
-abbrev deleteFile : List ℕ
+abbrev pub deleteFile : List ℕ
 deleteFile = opening ++ (line 68 66 ++ closing 49)
 
--- a take's numbers
+-- the numbers of a check, and of a take
+abbrev numbers : Taken → List ℕ
+numbers t = t .refusal ∷ t .place ∷ t .position ∷ t .records ∷ t .done ∷ t .undone ∷ t .last ∷ []
+
 abbrev returned : Outcome → List ℕ
-returned o =
-    let t = o .result in
-    t .refusal ∷ t .place ∷ t .position ∷ t .records ∷ t .done ∷ t .undone ∷ t .last ∷ []
+returned o = numbers (o .result)
 
 -- and those of writing a load file
 abbrev written : Load → List ℕ
@@ -84,9 +87,10 @@ written l =
     let t = l .result in
     t .refusal ∷ t .bytes ∷ t .entries ∷ []
 
--- the guide file and the data file, what lookup shows then, the D, the load file before and after it, an empty file and a bad one
+-- the guide file and the data file, what lookup shows then, the D, the load file before and after it, an empty file and a bad one; the
+-- data file checked before it is taken and afterwards, and the bad one checked
 unfoldable pub seen : List (List ℕ)
-unfolding spelled runsOf putAt dayOf cycleOf wholeCount countOf functionOf numberOf houseOf streetOf placeOf esnOf hasEsn dateOf companyOf rowStreetOf rowPlaceOf lowOf highOf parityOf allows rowEsnOf rowFunctionOf withEsn frameDateOf nameOf headerOf sameFrame trailerOf isDirection isDate isCycle isTally keepsFrame keepsOther keeps houseFault endFault highFault parityFault isWhole faultBy faultIn recordFault rowFault find first place withPlace goodLength stateOf slotDay recordOf slotOf isZero fitsSlot dayFits usedSound slotSound unsoundSlot registerSound isPresent isVacant rowOf rowSlotOf freeRowSlot presentSound rowSlotSound unsoundRowSlot guideSound hits covers sameStreet meetFrom meets clash sameRow filedOf hasNumber findNumber isOver findRow freeAt isReusable reusableAt findFree findReusable findSpare answerOf shown registerAfter step applied rowCodeOf clashAt findClash vacantAt findVacant sameAt findSame entryUnder findEntry rowApplied linesIn goodFile headerLine trailerLine lineAt badLine linesChecked trailerChecked frameChecked checked lineApplied after answerAt answersTo zerosIn othersIn refusedFile appliedFile taken historyTo historyAfter start taking run walked count isNumber seenIn lookup packed forLoad width amongSpaces leftDigits rightDigits frameWith headerWith trailerWith entryAt entriesIn linesTo headerFor trailerFor loadFile loadSize loadHeader laterAt headerRefusal loadRefusal loaded
+unfolding spelled runsOf putAt dayOf cycleOf wholeCount countOf functionOf numberOf houseOf streetOf placeOf esnOf hasEsn dateOf companyOf rowStreetOf rowPlaceOf lowOf highOf parityOf allows rowEsnOf rowFunctionOf withEsn frameDateOf nameOf headerOf sameFrame trailerOf isDirection isDate isCycle isTally keepsFrame keepsOther keeps houseFault endFault highFault parityFault isWhole faultBy faultIn recordFault rowFault find first place withPlace goodLength stateOf slotDay recordOf slotOf isZero fitsSlot dayFits usedSound slotSound unsoundSlot registerSound isPresent isVacant rowOf rowSlotOf freeRowSlot presentSound rowSlotSound unsoundRowSlot guideSound hits covers sameStreet meetFrom meets clash sameRow filedOf hasNumber findNumber isOver findRow freeAt isReusable reusableAt findFree findReusable findSpare answerOf shown registerAfter step applied rowCodeOf clashAt findClash vacantAt findVacant sameAt findSame entryUnder findEntry rowApplied linesIn goodFile headerLine trailerLine lineAt badLine linesChecked trailerChecked frameChecked checked lineApplied after answerAt answersTo zerosIn othersIn refusedFile appliedFile taken foretold historyTo historyAfter start taking run walked count isNumber seenIn lookup packed forLoad width amongSpaces leftDigits rightDigits frameWith headerWith trailerWith entryAt entriesIn linesTo headerFor trailerFor loadFile loadSize loadHeader laterAt headerRefusal loadRefusal loaded
 seen =
     let o = run (record { kind = Guide; bytes = guideFile; answers = 1 ∷ []; last = 0 } ∷ []) (start 1 1) in
     let t = taken Data (o .stores) dataFile (1 ∷ 1 ∷ 1 ∷ 1 ∷ 1 ∷ []) 0 in
@@ -107,6 +111,9 @@ seen =
     ∷ written (loaded R day company 1 (spaces 911))
     ∷ returned (taken Data (e .stores) [] [] 1)
     ∷ returned (taken Data (e .stores) badFile (1 ∷ []) 0)
+    ∷ numbers (foretold Data (o .stores) dataFile (1 ∷ 1 ∷ 1 ∷ 1 ∷ 1 ∷ []) 0)
+    ∷ numbers (foretold Data (e .stores) dataFile (1 ∷ 1 ∷ 1 ∷ 1 ∷ 1 ∷ []) 1)
+    ∷ numbers (foretold Data (e .stores) badFile (1 ∷ []) 0)
     ∷ []
 
 pub witness : seen
@@ -122,6 +129,9 @@ pub witness : seen
     ∷ (25 ∷ 0 ∷ 0 ∷ [])  -- and is refused where it does not fit
     ∷ (3 ∷ 0 ∷ 0 ∷ 0 ∷ 0 ∷ 0 ∷ 1 ∷ [])  -- the empty file is refused by 3, the last cycle stays
     ∷ (9 ∷ 1 ∷ 1 ∷ 0 ∷ 0 ∷ 0 ∷ 0 ∷ [])  -- the bad one by 9 at its first record and byte
+    ∷ (0 ∷ 0 ∷ 0 ∷ 5 ∷ 0 ∷ 0 ∷ 0 ∷ [])  -- the check before says 5 records, nothing done, the last cycle as given
+    ∷ (6 ∷ 0 ∷ 0 ∷ 0 ∷ 0 ∷ 0 ∷ 1 ∷ [])  -- and afterwards 6, for its cycle has been
+    ∷ (9 ∷ 1 ∷ 1 ∷ 0 ∷ 0 ∷ 0 ∷ 0 ∷ [])  -- the bad one is checked as it is refused
     ∷ []
 unfolding seen
 witness = refl

@@ -1,9 +1,12 @@
 //! `bench`: library, model and floor in one run, as a table. The floor is a copy
 //! of the bytes that a call is lent; for a lookup, one load a slot.
 
+use outside::call::Op;
 use outside::face::Library;
-use outside::gen::file;
-use outside::model::layout::{EDGES, GUIDE_SLOT, MOST_RECORDS, MOST_SLOTS, RECORD, REGISTER_SLOT};
+use outside::gen::{file, put};
+use outside::model::layout::{
+    record, EDGE, EDGES, GUIDE_SLOT, MOST_RECORDS, MOST_SLOTS, RECORD, REGISTER_SLOT,
+};
 use outside::model::Described;
 use outside::random::Random;
 use outside::subject::{Model, Subject};
@@ -79,9 +82,10 @@ fn copying<'a>(lent: Vec<&'a [u8]>) -> Pass<'a> {
     })
 }
 
-/// Takes of a data file, each on the register as it was.
+/// Checks or applies of a data file, each on the register as it was.
 fn data<'a>(
     subject: &'a impl Subject,
+    op: Op,
     register: &'a [u8],
     guide: &'a [u8],
     file: &'a [u8],
@@ -91,13 +95,17 @@ fn data<'a>(
     Box::new(move || {
         lent.copy_from_slice(register);
         answers.fill(0xee);
-        timed(|| subject.take_data(&mut lent, guide, file, &mut answers, 0))
+        match op {
+            Op::CheckData => timed(|| subject.check_data(&lent, guide, file, &answers, 0)),
+            _ => timed(|| subject.apply_data(&mut lent, guide, file, &mut answers, 0)),
+        }
     })
 }
 
-/// Takes of a guide file, each on the guide as it was.
+/// Checks or applies of a guide file, each on the guide as it was.
 fn rows<'a>(
     subject: &'a impl Subject,
+    op: Op,
     register: &'a [u8],
     guide: &'a [u8],
     file: &'a [u8],
@@ -107,7 +115,10 @@ fn rows<'a>(
     Box::new(move || {
         lent.copy_from_slice(guide);
         answers.fill(0xee);
-        timed(|| subject.take_guide(register, &mut lent, file, &mut answers, 0))
+        match op {
+            Op::CheckGuide => timed(|| subject.check_guide(register, &lent, file, &answers, 0)),
+            _ => timed(|| subject.apply_guide(register, &mut lent, file, &mut answers, 0)),
+        }
     })
 }
 
@@ -235,25 +246,42 @@ impl Bench {
         }
     }
 
-    fn data(&self, records: usize) {
-        let file = town::mixed_file(records, self.slots, self.slots);
+    /// A row for a data file under this name.
+    fn data_file(&self, op: Op, name: &str, file: &[u8]) {
         let (register, guide) = (&self.register, &self.guide);
-        let name = format!(
-            "take_data, {records} records, {} slots and rows",
-            self.slots
-        );
-        let library = data(&Library, register, guide, &file);
-        let model = data(&MODEL, register, guide, &file);
-        report(&name, library, model, copying(vec![register, guide, &file]));
+        let name = format!("{name}, {} slots and rows", self.slots);
+        let library = data(&Library, op, register, guide, file);
+        let model = data(&MODEL, op, register, guide, file);
+        report(&name, library, model, copying(vec![register, guide, file]));
     }
 
-    fn rows(&self) {
+    fn data(&self, op: Op, records: usize) {
+        let file = town::mixed_file(records, self.slots, self.slots);
+        let name = format!("{}, {records} records", op.name());
+        self.data_file(op, &name, &file);
+    }
+
+    /// An apply that tests all that a good check tests, and applies nothing: the
+    /// last byte of the last record is wrong.
+    fn refused(&self, records: usize) {
+        let mut file = town::mixed_file(records, self.slots, self.slots);
+        let last = file.len() - EDGE - RECORD;
+        put(&mut file[last..], record::STAR, b"?");
+        let op = Op::ApplyData;
+        let name = format!(
+            "{}, refused for its last record, {records} records",
+            op.name()
+        );
+        self.data_file(op, &name, &file);
+    }
+
+    fn rows(&self, op: Op) {
         let file = town::guide_file(self.slots);
         let empty = vec![0; self.slots * GUIDE_SLOT];
         let register = &self.register;
-        let name = format!("take_guide, {} rows into as many slots", self.slots);
-        let library = rows(&Library, register, &empty, &file);
-        let model = rows(&MODEL, register, &empty, &file);
+        let name = format!("{}, {} rows into as many slots", op.name(), self.slots);
+        let library = rows(&Library, op, register, &empty, &file);
+        let model = rows(&MODEL, op, register, &empty, &file);
         report(
             &name,
             library,
@@ -264,14 +292,15 @@ impl Bench {
 
     fn soundness(&self) {
         let file = file(b"010224", 1, b"", 0);
-        let (register, guide) = (&self.register, &self.guide);
-        let name = format!(
-            "soundness (take of 0 records), {} slots and rows",
-            self.slots
-        );
-        let library = data(&Library, register, guide, &file);
-        let model = data(&MODEL, register, guide, &file);
-        report(&name, library, model, copying(vec![register, guide, &file]));
+        self.data_file(Op::ApplyData, "soundness (apply of 0 records)", &file);
+    }
+
+    /// Both calls that take a data file, and both that take a guide file.
+    fn takes(&self, records: usize) {
+        self.data(Op::CheckData, records);
+        self.data(Op::ApplyData, records);
+        self.rows(Op::CheckGuide);
+        self.rows(Op::ApplyGuide);
     }
 
     fn load(&self) {
@@ -302,8 +331,8 @@ fn main() {
     println!("|---|---|---|---|---|---|---|");
     let full = Bench::new(MOST_SLOTS);
     full.lookups();
-    full.data(MOST_RECORDS);
-    full.rows();
+    full.refused(MOST_RECORDS);
+    full.takes(MOST_RECORDS);
     full.load();
     full.soundness();
     full.conversion();
@@ -318,13 +347,13 @@ fn main() {
     for slots in [512, 1024, 2048, 4096] {
         let bench = Bench::new(slots);
         bench.lookups();
-        bench.data(slots);
-        bench.rows();
+        bench.takes(slots);
         bench.load();
         bench.soundness();
         bench.conversion();
     }
     for records in [512, 1024, 2048, 4096, 8192] {
-        full.data(records);
+        full.data(Op::CheckData, records);
+        full.data(Op::ApplyData, records);
     }
 }

@@ -1,4 +1,4 @@
-//! `faults [--seed S] [--cases N] [--full]`: ten faults put into the model by
+//! `faults [--seed S] [--cases N] [--full]`: twelve faults put into the model by
 //! hand. The differential runs against the library must see each of them; `--full`
 //! prints the call that showed it, made small.
 
@@ -6,8 +6,8 @@ use outside::arguments::Arguments;
 use outside::explore::{Explorer, Finding, Runs};
 use outside::face::Library;
 use outside::model::rules::{
-    ClashWithoutParity, CpdFrom1960, NinetyOneDays, NoCycleWrap, NoLeapYear, NoLeftJustify,
-    PivotOneOff, RestingForgotten, TrimmedFirst, UnfitFirst,
+    AnswersUnmeasured, ClashWithoutParity, CpdFrom1960, CycleFromCheck, NinetyOneDays, NoCycleWrap,
+    NoLeapYear, NoLeftJustify, PivotOneOff, RestingForgotten, TrimmedFirst, UnfitFirst,
 };
 use outside::model::Rules;
 use outside::random::Random;
@@ -42,7 +42,7 @@ fn in_texts<R: Rules>(arguments: &Arguments) -> Found {
 
 /// The faults, by their names.
 type Search = fn(&Arguments) -> Found;
-const FAULTS: [(&str, Search); 10] = [
+const FAULTS: [(&str, Search); 12] = [
     ("91 days instead of 90", in_files::<NinetyOneDays>),
     ("clash without parity", in_files::<ClashWithoutParity>),
     ("no left-justify rule", in_files::<NoLeftJustify>),
@@ -52,6 +52,14 @@ const FAULTS: [(&str, Search); 10] = [
     (
         "conversion without resting slots",
         in_files::<RestingForgotten>,
+    ),
+    (
+        "a check returns the header's cycle",
+        in_files::<CycleFromCheck>,
+    ),
+    (
+        "a check without the answers' length",
+        in_files::<AnswersUnmeasured>,
     ),
     ("36 tried before 35", in_texts::<UnfitFirst>),
     (

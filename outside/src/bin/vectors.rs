@@ -1,5 +1,6 @@
 //! `vectors CALLS.. [DESK_FOLDER]`: runs every line of the calls files against
-//! the model and the library, and every desk vector against the model.
+//! the model and the library, before each apply the check that foretells it, and
+//! every desk vector against the model.
 
 use outside::dates::day_read;
 use outside::face::Library;
@@ -50,8 +51,10 @@ fn calls(path: &Path, library: &mut Tally, model: &mut Tally) -> std::io::Result
             model.note(&place, difference);
             library.note(&place, other_day(expected, day_read(&Library, &date)));
         } else if let Some(vector) = parse(line) {
-            model.note(&place, against(&MODEL, &vector, before));
-            library.note(&place, against(&Library, &vector, before));
+            for vector in [vector.check(), Some(vector)].iter().flatten() {
+                model.note(&place, against(&MODEL, vector, before));
+                library.note(&place, against(&Library, vector, before));
+            }
         } else {
             model.note(&place, Some("can't be read".to_string()));
         }

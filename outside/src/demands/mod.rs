@@ -42,7 +42,7 @@ fn demand(kept: bool, what: &str) -> Result<(), String> {
 impl History {
     /// Adds an accepted data file's answers to the history.
     pub fn note(&mut self, call: &Call, outcome: &Outcome) -> Result<(), String> {
-        if call.op != Op::TakeData || outcome.refusal() != 0 {
+        if call.op != Op::ApplyData || outcome.refusal() != 0 {
             return Ok(());
         }
         let records = call.lent[2][EDGE..].chunks_exact(RECORD);
@@ -174,7 +174,7 @@ pub fn round_trip(subject: &impl Subject, register: &[u8], guide: &[u8]) -> Resu
     )?;
     let mut back = vec![0; live.len().max(1) * REGISTER_SLOT];
     let mut answers = vec![1; live.len()];
-    let taken = subject.take_data(&mut back, guide, &file, &mut answers, 999_999);
+    let taken = subject.apply_data(&mut back, guide, &file, &mut answers, 999_999);
     demand(
         taken.refusal == 0 && taken.undone == 0,
         "the load file is not taken",
@@ -207,9 +207,9 @@ mod tests {
         let mut history = History::default();
         for turn in 0..12 {
             let call = if turn < 4 {
-                world.take_guide()
+                world.apply_guide()
             } else {
-                world.take_data()
+                world.apply_data()
             };
             let outcome = call.run(&MODEL, 0);
             world.adopt(call.op, &outcome.returned, &outcome.lent);

@@ -19,38 +19,35 @@ impl World {
         }
     }
 
-    /// A take of a data file.
-    pub fn take_data(&mut self) -> Call {
-        let count = self.some_count();
-        let file = self.data_file(count);
-        let more = self.random.pick(&[0, 0, 1, 7]);
+    /// An apply of this file to the stores as they are.
+    pub fn apply(&self, op: Op, file: Vec<u8>, answers: usize) -> Call {
+        let given = if op.has_records() {
+            self.last_data
+        } else {
+            self.last_guide
+        };
+        let answers = vec![FILLER; answers];
         Call {
-            op: Op::TakeData,
-            given: self.last_data,
-            lent: vec![
-                self.register.clone(),
-                self.guide.clone(),
-                file,
-                vec![FILLER; count + more],
-            ],
+            op,
+            given,
+            lent: vec![self.register.clone(), self.guide.clone(), file, answers],
         }
     }
 
-    /// A take of a guide file.
-    pub fn take_guide(&mut self) -> Call {
+    /// An apply of a data file.
+    pub fn apply_data(&mut self) -> Call {
+        let count = self.some_count();
+        let file = self.data_file(count);
+        let more = self.random.pick(&[0, 0, 1, 7]);
+        self.apply(Op::ApplyData, file, count + more)
+    }
+
+    /// An apply of a guide file.
+    pub fn apply_guide(&mut self) -> Call {
         let count = self.some_count().min(4200);
         let file = self.guide_file(count);
         let more = self.random.pick(&[0, 0, 1, 7]);
-        Call {
-            op: Op::TakeGuide,
-            given: self.last_guide,
-            lent: vec![
-                self.register.clone(),
-                self.guide.clone(),
-                file,
-                vec![FILLER; count + more],
-            ],
-        }
+        self.apply(Op::ApplyGuide, file, count + more)
     }
 
     /// A lookup of a number that may be there.

@@ -210,15 +210,15 @@ impl World {
         )
     }
 
-    /// Takes over what an accepted or refused take left.
+    /// Takes over what an apply left.
     pub fn adopt(&mut self, op: Op, returned: &[u32], lent: &[Vec<u8>]) {
         let last = returned.last().copied().unwrap_or(0);
         match op {
-            Op::TakeData => {
+            Op::ApplyData => {
                 self.register.clone_from(&lent[0]);
                 self.last_data = last;
             }
-            Op::TakeGuide => {
+            Op::ApplyGuide => {
                 self.guide.clone_from(&lent[1]);
                 self.last_guide = last;
             }

@@ -8,7 +8,7 @@ use super::layout::{record, row, Field, GUIDE_SLOT, RECORD, REGISTER_SLOT, ROW, 
 use super::rules::{Described, Former};
 use super::store::{register_sound, slot_day};
 use super::{
-    convert_register, lookup, take_data, take_guide, write_load, Converted, Found, Loaded, Taken,
+    apply_data, apply_guide, convert_register, lookup, write_load, Converted, Found, Loaded, Taken,
 };
 use crate::gen::{file, put, NAME};
 
@@ -74,7 +74,7 @@ fn a_guide() -> Vec<u8> {
 fn answers(register: &mut [u8], date: &[u8; 6], records: &[[u8; RECORD]]) -> Vec<u8> {
     let mut answers = vec![0xee; records.len()];
     let all = file(date, 1, &records.concat(), records.len());
-    let taken = take_data::<Described>(register, &a_guide(), &all, &mut answers, 0);
+    let taken = apply_data::<Described>(register, &a_guide(), &all, &mut answers, 0);
     assert_eq!(taken.refusal, 0);
     answers
 }
@@ -247,7 +247,7 @@ fn a_row_that_only_an_open_number_uses_stays() {
     put(&mut delete, row::FUNCTION, b"D");
     let (mut guide, mut answers) = (a_guide(), [0xee; 2]);
     let all = file(b"010100", 1, &delete, 1);
-    let taken = take_guide::<Described>(&register, &mut guide, &all, &mut answers, 0);
+    let taken = apply_guide::<Described>(&register, &mut guide, &all, &mut answers, 0);
     assert_eq!((taken.done, taken.undone, taken.last), (0, 1, 1));
     assert_eq!((answers, guide), ([24, 0xee], a_guide()));
 }
@@ -257,7 +257,7 @@ fn a_fault_in_the_last_record_leaves_everything() {
     let records = [a_record(&[]), a_record(&[(record::STAR, " ")])].concat();
     let (mut register, mut answers) = (vec![0; REGISTER_SLOT], [0xee; 2]);
     let all = file(b"010100", 1, &records, 2);
-    let taken = take_data::<Described>(&mut register, &a_guide(), &all, &mut answers, 0);
+    let taken = apply_data::<Described>(&mut register, &a_guide(), &all, &mut answers, 0);
     let expected = Taken {
         refusal: 9,
         place: 2,

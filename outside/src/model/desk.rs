@@ -3,7 +3,7 @@
 use super::layout::{GUIDE_SLOT, MOST_RECORDS, REGISTER_SLOT};
 use super::results::Taken;
 use super::rules::Described;
-use super::{lookup, take_data, take_guide};
+use super::{apply_data, apply_guide, lookup};
 
 /// Slots of each kind.
 pub const SLOTS: usize = 64;
@@ -95,7 +95,7 @@ impl Desk {
         let file = std::mem::take(&mut self.collected);
         let mut answers = [0; MOST_RECORDS];
         let (register, guide) = (&self.register, &mut self.guide);
-        let taken = take_guide::<Described>(register, guide, &file, &mut answers, self.last_guide);
+        let taken = apply_guide::<Described>(register, guide, &file, &mut answers, self.last_guide);
         self.last_guide = taken.last;
         tell(&taken, &answers, output);
     }
@@ -104,7 +104,7 @@ impl Desk {
         let file = std::mem::take(&mut self.collected);
         let mut answers = [0; MOST_RECORDS];
         let (register, guide) = (&mut self.register, &self.guide);
-        let taken = take_data::<Described>(register, guide, &file, &mut answers, self.last_data);
+        let taken = apply_data::<Described>(register, guide, &file, &mut answers, self.last_data);
         self.last_data = taken.last;
         tell(&taken, &answers, output);
     }

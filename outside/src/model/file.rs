@@ -1,4 +1,4 @@
-//! The tests of a file before its records are applied: refusals 1 to 9.
+//! What a check tests, and an apply before its records: refusals 1 to 9.
 
 use super::date::{day, follows, Day};
 use super::form::{header_cycle, trailer_count};

@@ -28,4 +28,4 @@ pub use lookup::lookup;
 pub use results::{Converted, Found, Loaded, Tagged, Taken};
 pub use rules::{Described, Former, Rules};
 pub use tagged::{read_tagged, write_tagged};
-pub use take::{take_data, take_guide};
+pub use take::{apply_data, apply_guide, check_data, check_guide};

@@ -1,6 +1,6 @@
-//! What the seven functions give back.
+//! What the nine functions give back.
 
-/// The answer to a take.
+/// The answer to a check and to an apply.
 #[repr(C)]
 #[derive(Clone, Copy, Debug, Default, PartialEq, Eq)]
 pub struct Taken {
@@ -10,13 +10,13 @@ pub struct Taken {
     pub place: u32,
     /// First byte of its first bad field, only in refusal 9.
     pub position: u32,
-    /// Records applied.
+    /// Records of a file that is not refused.
     pub records: u32,
-    /// Answers that are 0.
+    /// Answers that are 0; a check gives none.
     pub done: u32,
     /// Answers that are not.
     pub undone: u32,
-    /// The last cycle afterwards.
+    /// The last cycle afterwards: a check leaves it as given.
     pub last: u32,
 }
 

@@ -5,7 +5,7 @@
 use super::date::Reading;
 use std::marker::PhantomData;
 
-/// What the description decides at the ten places, and how dates are read.
+/// What the description decides at the twelve places, and how dates are read.
 pub trait Rules {
     /// Days after which another number may have a resting slot.
     const RESTING_DAYS: u32 = 90;
@@ -27,6 +27,10 @@ pub trait Rules {
     const TRAILING_SPACES_COUNT: bool = true;
     /// "CPD as Date, MMDDYY, only where the year is 1970 to 2069."
     const FIRST_CPD_YEAR: u32 = 1970;
+    /// Whether a good check leaves the last cycle as given.
+    const CHECK_KEEPS_LAST: bool = true;
+    /// Whether a check is refused by 4 too.
+    const CHECK_MEASURES_ANSWERS: bool = true;
     /// How dates are read.
     const READING: Reading = Reading::Present;
 }
@@ -48,6 +52,8 @@ impl<R: Rules> Rules for Former<R> {
     const TWICE_FIRST: bool = R::TWICE_FIRST;
     const TRAILING_SPACES_COUNT: bool = R::TRAILING_SPACES_COUNT;
     const FIRST_CPD_YEAR: u32 = R::FIRST_CPD_YEAR;
+    const CHECK_KEEPS_LAST: bool = R::CHECK_KEEPS_LAST;
+    const CHECK_MEASURES_ANSWERS: bool = R::CHECK_MEASURES_ANSWERS;
     const READING: Reading = Reading::Former;
 }
 
@@ -109,4 +115,16 @@ impl Rules for TrimmedFirst {
 pub struct CpdFrom1960;
 impl Rules for CpdFrom1960 {
     const FIRST_CPD_YEAR: u32 = 1960;
+}
+
+/// Fault: a check returns the header's cycle, as if the file had been applied.
+pub struct CycleFromCheck;
+impl Rules for CycleFromCheck {
+    const CHECK_KEEPS_LAST: bool = false;
+}
+
+/// Fault: a check passes a file whose answers have no room.
+pub struct AnswersUnmeasured;
+impl Rules for AnswersUnmeasured {
+    const CHECK_MEASURES_ANSWERS: bool = false;
 }

@@ -1,24 +1,89 @@
-//! Taking a data file and taking a guide file.
+//! Taking a file is two calls: one checks it and changes nothing, the other
+//! checks it again and applies it.
 
 use super::apply::{data_record, guide_row, DONE};
 use super::file::{examine, File, Kind};
 use super::form::{record_fault, row_fault};
-use super::layout::{RECORD, ROW};
+use super::layout::{MOST_RECORDS, RECORD, ROW};
 use super::results::Taken;
 use super::rules::Rules;
 
-/// Takes a data file.
-pub fn take_data<R: Rules>(
+fn data_file<R: Rules>() -> Kind {
+    Kind {
+        size: RECORD,
+        fault: record_fault::<R>,
+    }
+}
+
+fn guide_file<R: Rules>() -> Kind {
+    Kind {
+        size: ROW,
+        fault: row_fault::<R>,
+    }
+}
+
+/// Checks a data file.
+pub fn check_data<R: Rules>(
+    register: &[u8],
+    guide: &[u8],
+    file: &[u8],
+    answers: &[u8],
+    last: u32,
+) -> Taken {
+    let kind = data_file::<R>();
+    check::<R>(&kind, register, guide, file, answers.len(), last)
+}
+
+/// Checks a guide file.
+pub fn check_guide<R: Rules>(
+    register: &[u8],
+    guide: &[u8],
+    file: &[u8],
+    answers: &[u8],
+    last: u32,
+) -> Taken {
+    let kind = guide_file::<R>();
+    check::<R>(&kind, register, guide, file, answers.len(), last)
+}
+
+/// "One tests all that refusals 1 to 9 test and changes nothing. A good check
+/// returns n": nothing is done by it, so the last cycle is as given.
+fn check<R: Rules>(
+    kind: &Kind,
+    register: &[u8],
+    guide: &[u8],
+    file: &[u8],
+    answers: usize,
+    last: u32,
+) -> Taken {
+    let answers = if R::CHECK_MEASURES_ANSWERS {
+        answers
+    } else {
+        MOST_RECORDS
+    };
+    match examine::<R>(kind, register, guide, file, answers, last) {
+        Err(refusal) => refusal,
+        Ok(file) => Taken {
+            records: file.count as u32,
+            last: if R::CHECK_KEEPS_LAST {
+                last
+            } else {
+                file.cycle
+            },
+            ..Taken::default()
+        },
+    }
+}
+
+/// Applies a data file.
+pub fn apply_data<R: Rules>(
     register: &mut [u8],
     guide: &[u8],
     file: &[u8],
     answers: &mut [u8],
     last: u32,
 ) -> Taken {
-    let kind = Kind {
-        size: RECORD,
-        fault: record_fault::<R>,
-    };
+    let kind = data_file::<R>();
     match examine::<R>(&kind, register, guide, file, answers.len(), last) {
         Err(refusal) => refusal,
         Ok(file) => apply(&file, RECORD, answers, |whole| {
@@ -27,18 +92,15 @@ pub fn take_data<R: Rules>(
     }
 }
 
-/// Takes a guide file.
-pub fn take_guide<R: Rules>(
+/// Applies a guide file.
+pub fn apply_guide<R: Rules>(
     register: &[u8],
     guide: &mut [u8],
     file: &[u8],
     answers: &mut [u8],
     last: u32,
 ) -> Taken {
-    let kind = Kind {
-        size: ROW,
-        fault: row_fault::<R>,
-    };
+    let kind = guide_file::<R>();
     match examine::<R>(&kind, register, guide, file, answers.len(), last) {
         Err(refusal) => refusal,
         Ok(file) => apply(&file, ROW, answers, |whole| {

@@ -221,7 +221,7 @@ impl<A: Subject, B: Subject> Explorer<'_, A, B, TextCoverage> {
     fn is_taken(&self, records: &[u8]) -> Result<(), Finding> {
         let count = records.len() / RECORD;
         let call = Call {
-            op: Op::TakeData,
+            op: Op::ApplyData,
             given: 0,
             lent: vec![
                 vec![0; REGISTER_SLOT],

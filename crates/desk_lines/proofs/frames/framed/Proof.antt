@@ -67,8 +67,8 @@ returns-3 c =
     rw (framed-more (deskOf (at-start .m) (benchOf register guide collection l (at-start .out .now))) (at-start .code)
     (at-start .bytes .now) (if1 .left) (if2 .left) (at-if3 .if3 .taken)) (unread .ensures register guide collection l ready)
 
-take-guide-requires : tie.Need-take-guide-requires
-take-guide-requires c κs = search needs
+apply-guide-requires : tie.Need-apply-guide-requires
+apply-guide-requires c κs = search needs
 
 same-length-6 : tie.Need-same-length-6
 same-length-6 c = search needs
@@ -84,17 +84,17 @@ same-length-9 c = search needs
 
 returns-4 : tie.Need-returns-4
 returns-4 c =
-    let at-take-guide = c .before .before .before .before in
-    let at-if4 = at-take-guide .before .before .before .before .before in
+    let at-apply-guide = c .before .before .before .before in
+    let at-if4 = at-apply-guide .before .before .before .before .before in
     let if3 = at-if4 .before .if3 in
     let at-start = at-if4 .before .before .before .before .before .before .before .before .before .args in
     λ l ready.
     rw (framed-guide
     (deskOf (at-start .m) (benchOf (at-start .register .now) (at-start .guide .now) (at-start .collection .now) l (at-start .out .now)))
-    (at-start .code) (at-start .bytes .now) (at-if4 .if4 .taken) (if3 .left)) (at-take-guide .take-guide .ensures l ready)
+    (at-start .code) (at-start .bytes .now) (at-if4 .if4 .taken) (if3 .left)) (at-apply-guide .apply-guide .ensures l ready)
 
-take-data-requires : tie.Need-take-data-requires
-take-data-requires c κs = search needs
+apply-data-requires : tie.Need-apply-data-requires
+apply-data-requires c κs = search needs
 
 same-length-10 : tie.Need-same-length-10
 same-length-10 c = search needs
@@ -110,14 +110,14 @@ same-length-13 c = search needs
 
 returns-5 : tie.Need-returns-5
 returns-5 c =
-    let at-take-data = c .before .before .before .before in
-    let at-if5 = at-take-data .before .before .before .before .before in
+    let at-apply-data = c .before .before .before .before in
+    let at-if5 = at-apply-data .before .before .before .before .before in
     let if3 = at-if5 .before .before .if3 in
     let at-start = at-if5 .before .before .before .before .before .before .before .before .before .before .args in
     λ l ready.
     rw (framed-data
     (deskOf (at-start .m) (benchOf (at-start .register .now) (at-start .guide .now) (at-start .collection .now) l (at-start .out .now)))
-    (at-start .code) (at-start .bytes .now) (at-if5 .if5 .taken) (if3 .left)) (at-take-data .take-data .ensures l ready)
+    (at-start .code) (at-start .bytes .now) (at-if5 .if5 .taken) (if3 .left)) (at-apply-data .apply-data .ensures l ready)
 
 unread-requires-2 : tie.Need-unread-requires-2
 unread-requires-2 c κs = search needs
@@ -156,13 +156,13 @@ framed-spec =
     unread-requires
     same-length-5
     returns-3
-    take-guide-requires
+    apply-guide-requires
     same-length-6
     same-length-7
     same-length-8
     same-length-9
     returns-4
-    take-data-requires
+    apply-data-requires
     same-length-10
     same-length-11
     same-length-12

@@ -12,8 +12,8 @@ use Rattle.rules.proofs.TakeLaws.{refused-is, good-is}
 use Rattle.rules.proofs.GoodLaws.{good-file}
 use Rattle.rules.proofs.GoodLaws.{good-room}
 use Rattle.taking.proofs.LoopLaws.{good-lines, applied-is}
-use Rattle.taking.proofs.take.take_data.Tie as tie
-use Rattle.taking.proofs.take.take_data.Statement.{statement}
+use Rattle.taking.proofs.take.apply_data.Tie as tie
+use Rattle.taking.proofs.take.apply_data.Statement.{statement}
 
 given-requires : tie.Need-given-requires
 given-requires c κs = search needs
@@ -118,8 +118,8 @@ returns-2 c =
       ),
     )
 
-pub take-data-spec : {M : Type 1} → statement M
-take-data-spec =
+pub apply-data-spec : {M : Type 1} → statement M
+apply-data-spec =
     tie.close
     (tie.spec
     given-requires

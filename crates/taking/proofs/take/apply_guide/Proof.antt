@@ -12,8 +12,8 @@ use Rattle.rules.proofs.TakeLaws.{refused-is, good-is}
 use Rattle.rules.proofs.GoodLaws.{good-file}
 use Rattle.rules.proofs.GoodLaws.{good-room}
 use Rattle.taking.proofs.LoopLaws.{good-lines, applied-is}
-use Rattle.taking.proofs.take.take_guide.Tie as tie
-use Rattle.taking.proofs.take.take_guide.Statement.{statement}
+use Rattle.taking.proofs.take.apply_guide.Tie as tie
+use Rattle.taking.proofs.take.apply_guide.Statement.{statement}
 
 given-requires : tie.Need-given-requires
 given-requires c κs = search needs
@@ -118,8 +118,8 @@ returns-2 c =
       ),
     )
 
-pub take-guide-spec : {M : Type 1} → statement M
-take-guide-spec =
+pub apply-guide-spec : {M : Type 1} → statement M
+apply-guide-spec =
     tie.close
     (tie.spec
     given-requires

@@ -1,5 +1,5 @@
--- taking::take_data gets the collected bytes and 325 answers of 0, as dataTake has them; data-laid lays that take out, the guide as it was.
--- taken-fits bounds refusal and records, as say::taken asks.
+-- taking::apply_data gets the collected bytes and 325 answers of 0, as dataTake has them; data-laid lays that take out, the guide as it
+-- was. taken-fits bounds refusal and records, as say::taken asks.
 use mathlib.Core.Path.{_≡_}
 use Prim.Native.Nat.{_-_}
 use native.Mathlib.Omega.{arith}
@@ -9,36 +9,36 @@ use borrow.Author.Needs.{needs}
 use Rattle.rules.specs.declared.Kind.the-variants.{Data}
 use Rattle.desk_rules.proofs.DeskLaws.{data-laid}
 use Rattle.desk_rules.proofs.TakenLaws.{taken-fits}
-use Rattle.desk_lines.proofs.frames.take_data.Tie as tie
-use Rattle.desk_lines.proofs.frames.take_data.Statement.{statement}
+use Rattle.desk_lines.proofs.frames.apply_data.Tie as tie
+use Rattle.desk_lines.proofs.frames.apply_data.Statement.{statement}
 
-sub-take-data : tie.Need-sub-take-data
-sub-take-data c = search needs
+sub-apply-data : tie.Need-sub-apply-data
+sub-apply-data c = search needs
 
-part-take-data-start : tie.Need-part-take-data-start
-part-take-data-start c = search needs
+part-apply-data-start : tie.Need-part-apply-data-start
+part-apply-data-start c = search needs
 
-part-take-data-end : tie.Need-part-take-data-end
-part-take-data-end c = search needs
+part-apply-data-end : tie.Need-part-apply-data-end
+part-apply-data-end c = search needs
 
-slice-aggregate-take-data : tie.Need-slice-aggregate-take-data
-slice-aggregate-take-data c = search needs
+slice-aggregate-apply-data : tie.Need-slice-aggregate-apply-data
+slice-aggregate-apply-data c = search needs
 
-take-data-requires : tie.Need-take-data-requires
-take-data-requires c κs = search needs
+apply-data-requires : tie.Need-apply-data-requires
+apply-data-requires c κs = search needs
 
 slice-aggregate-taken : tie.Need-slice-aggregate-taken
 slice-aggregate-taken c = search needs
 
 taken-requires : tie.Need-taken-requires
 taken-requires c κs =
-    let take-data = c .before .before .before .before .before .take-data in
+    let apply-data = c .before .before .before .before .before .apply-data in
     let at-start = c .before .before .before .before .before .before .before .before .before .before .before .before .before .args in
     let m = at-start .m in
     let e : m .collected - 0 ≡ m .collected = omega arith in
-    let q = rw e at (take-data .ensures) in
+    let q = rw e at (apply-data .ensures) in
     let h = taken-fits Data (record { register = at-start .register .now; guide = at-start .guide .now })
-    (take (m .collected) (at-start .collection .now)) (m .register) (q .0) (take-data .kept .1 .1 .1 .0) in
+    (take (m .collected) (at-start .collection .now)) (m .register) (q .0) (apply-data .kept .1 .1 .1 .0) in
     (h .0, (h .1, search needs))
 
 emptied-requires : tie.Need-emptied-requires
@@ -53,24 +53,24 @@ same-length-2 c = search needs
 returns : tie.Need-returns
 returns c =
     let taken = c .before .before .before .taken in
-    let at-take-data = c .before .before .before .before .before .before .before .before .before in
-    let at-start = at-take-data .before .before .before .before .before .before .before .before .args in
+    let at-apply-data = c .before .before .before .before .before .before .before .before .before in
+    let at-start = at-apply-data .before .before .before .before .before .before .before .before .args in
     let m = at-start .m in
     let e : m .collected - 0 ≡ m .collected = omega arith in
-    let q = rw e at (at-take-data .take-data .ensures) in
+    let q = rw e at (at-apply-data .apply-data .ensures) in
     λ l ready. rw (c .emptied .ensures)
     (data-laid m (at-start .register .now) (at-start .guide .now) (at-start .collection .now) l (at-start .out .now) ready _ _ _ _
     (taken .ensures) _ q)
 
-pub take-data-spec : {M : Type 1} → statement M
-take-data-spec =
+pub apply-data-spec : {M : Type 1} → statement M
+apply-data-spec =
     tie.close
     (tie.spec
-    sub-take-data
-    part-take-data-start
-    part-take-data-end
-    slice-aggregate-take-data
-    take-data-requires
+    sub-apply-data
+    part-apply-data-start
+    part-apply-data-end
+    slice-aggregate-apply-data
+    apply-data-requires
     slice-aggregate-taken
     taken-requires
     emptied-requires
