@@ -1,8 +1,9 @@
 /*
  * circle: an example of the whole circle, from a guide file and data files through a load file back to a register,
- * each file checked and then applied; of a file that is checked in the evening and refused in the morning; of a tagged
- * record (Version 3.1) that is read, framed and taken, and written back as the same text; and of converting a register
- * that was written before, when days counted from 010100.
+ * each file checked and then applied; of the same circle in Version 1, and of an entry that Version 1 cannot say; of a
+ * file that is checked in the evening and refused in the morning; of a tagged record (Version 3.1) that is read, framed
+ * and taken, and written back as the same text; and of converting a register that was written before, when days counted
+ * from 010100.
  *
  *   circle            runs the circle and tells each step
  *   circle REGISTER   also writes the register to the file REGISTER, for `console` to look at
@@ -14,10 +15,20 @@
 
 enum { SLOTS = 8 };
 
-static const struct part RECORD_HOUSE = {12, 21}, RECORD_STREET = {28, 87}, RECORD_SUFFIX = {88, 91},
-                         RECORD_COMMUNITY = {94, 125}, RECORD_STATE = {126, 127}, RECORD_CLASS = {220, 220},
-                         RECORD_TYPE = {221, 221}, RECORD_ESN = {226, 230}, RECORD_DATE = {251, 256},
-                         RECORD_COMPANY = {261, 265}, RECORD_SOURCE = {266, 266};
+/* Where the fields of a record stand, beside those that frames.h has for both versions. */
+struct fields {
+    struct part house, street, suffix, community, state, class, type, esn, date, company, source;
+};
+
+/* A register keeps Version 2. The fields of Version 1 are the same, some of them shorter; it has none for comments. */
+static const struct fields
+    RECORD = {.house = {12, 21}, .street = {28, 87}, .suffix = {88, 91}, .community = {94, 125}, .state = {126, 127},
+        .class = {220, 220}, .type = {221, 221}, .esn = {226, 230}, .date = {251, 256}, .company = {261, 265},
+        .source = {266, 266}},
+    V1_RECORD = {.house = {12, 21}, .street = {28, 67}, .suffix = {68, 71}, .community = {74, 105},
+        .state = {106, 107}, .class = {160, 160}, .type = {161, 161}, .esn = {166, 170}, .date = {191, 196},
+        .company = {201, 205}, .source = {206, 206}};
+static const struct part RECORD_COMMENTS = {290, 319};
 
 /* A data record, and the answer it should get. Deletes and unlocks need no address. */
 struct entry {
@@ -68,7 +79,17 @@ static const struct entry LATE[] = {
     {"C", "5035550103", "OLDCO", "101426", "42", "MAIN", "ST", "83", HAKKIYOLU_ANSWER_NUMBER_OPEN},
 };
 
-static const struct heading EVENING_HEADING = {"101826", "NEWCO TELEPHONE", "4"};
+static const struct heading HOTEL_HEADING = {"101726", "GRAND HOTELS", "4"};
+
+/* A hotel's switch files Version 1, with the three codes that it has: I, C and D. */
+static const struct entry HOTEL[] = {
+    {"I", "5035550106", "HOTEL", "101626", "50", "MAIN", "ST", "", HAKKIYOLU_ANSWER_DONE},
+    {"I", "5035550107", "HOTEL", "101626", "50", "MAIN", "ST", "83", HAKKIYOLU_ANSWER_DONE},
+    {"C", "5035550106", "HOTEL", "101726", "52", "MAIN", "ST", "", HAKKIYOLU_ANSWER_DONE},
+    {"D", "5035550107", "HOTEL", "101726", "", "", "", "", HAKKIYOLU_ANSWER_DONE},
+};
+
+static const struct heading EVENING_HEADING = {"101826", "NEWCO TELEPHONE", "5"};
 
 /*
  * The second company would take over the other unlocked number. Its file is checked in the evening, but before the
@@ -81,18 +102,23 @@ static const struct entry EVENING[] = {
 /* No answer has this number, so an answer byte that holds it was not written to. */
 enum { UNANSWERED = 0x77 };
 
-static const struct heading TAGGED_HEADING = {"101826", "OLDCO TELEPHONE", "4"};
+static const struct heading TAGGED_HEADING = {"101826", "OLDCO TELEPHONE", "5"};
 
 /*
  * One more number of the first company, which comes tagged. Its labels stand in the order in which they are written,
- * and its ESN is given, so that the register keeps the record as it was read: it comes back as this very text.
+ * and its ESN is given, so that the register keeps the record as it was read: it comes back as this very text. Its
+ * comments have no place in Version 1.
  */
 static const char TEXT[] =
-    "DAT|FOCI|CPN5035550105|HNO44|STNMAIN|STSST|MCNMILLBROOK|STAOR|CLS1|TYS0|ESN83|CPD2026-10-16|CPFOLDCO\n";
+    "DAT|FOCI|CPN5035550105|HNO44|STNMAIN|STSST|MCNMILLBROOK|STAOR|CLS1|TYS0|ESN83|CPD2026-10-16|CPFOLDCO"
+    "|CMTDOOR IS IN MILL RD\n";
 static const char TEXT_NUMBER[] = "5035550105";
 
 /* A load file is a data file. The dispatch centre has applied none yet, so it is cycle 1 there. */
-static const struct kind LOAD_FILE = {"load file", HAKKIYOLU_RECORD_BYTES, check_data, apply_data};
+static const struct kind LOAD_FILE = {"load file", VERSION_2, HAKKIYOLU_HEADER_BYTES, HAKKIYOLU_RECORD_BYTES,
+                             check_data, apply_data},
+                         V1_LOAD_FILE = {"Version 1 load file", VERSION_1, HAKKIYOLU_V1_HEADER_BYTES,
+                             HAKKIYOLU_V1_RECORD_BYTES, check_data, apply_data};
 static const struct heading LOAD_HEADING = {"102026", "REGISTER OFFICE", "1"};
 enum { LOAD_CYCLE = 1 };
 
@@ -105,47 +131,62 @@ enum { OLD_FIRST_DAY = 10957, OLD_LATE_DAY = 25568, LATE_SLOT = 2 };
 
 /* ---- Data files ------------------------------------------------------------------------------------------------ */
 
-static void write_record(uint8_t *line, const struct entry *entry)
+static void write_record(uint8_t *line, const struct fields *at, const struct entry *entry)
 {
     put(line, RECORD_FUNCTION, entry->function);
     put(line, RECORD_NUMBER, entry->number);
-    put(line, RECORD_HOUSE, entry->house);
-    put(line, RECORD_STREET, entry->street);
-    put(line, RECORD_SUFFIX, entry->suffix);
-    put(line, RECORD_COMMUNITY, COMMUNITY);
-    put(line, RECORD_STATE, STATE);
-    put(line, RECORD_CLASS, "1");
-    put(line, RECORD_TYPE, "0");
-    put(line, RECORD_ESN, entry->esn);
-    put(line, RECORD_DATE, entry->date);
-    put(line, RECORD_COMPANY, entry->company);
+    put(line, at->house, entry->house);
+    put(line, at->street, entry->street);
+    put(line, at->suffix, entry->suffix);
+    put(line, at->community, COMMUNITY);
+    put(line, at->state, STATE);
+    put(line, at->class, "1");
+    put(line, at->type, "0");
+    put(line, at->esn, entry->esn);
+    put(line, at->date, entry->date);
+    put(line, at->company, entry->company);
 }
 
-/* The entries as one data file. */
-static struct file frame_entries(const struct heading *heading, const struct entry *entries, size_t count)
+/* The entries as one data file, of either version. */
+static struct file frame_entries(const struct kind *kind, const struct heading *heading, const struct entry *entries,
+    size_t count)
 {
-    const struct file file = frame(&DATA_FILE, heading, count);
+    const struct file file = frame(kind, heading, count);
     for (size_t i = 0; i < count; i++) {
-        write_record(line_at(&file, i), &entries[i]);
+        write_record(line_at(&file, i), is_v1(&file) ? &V1_RECORD : &RECORD, &entries[i]);
     }
     return file;
+}
+
+/* Tells the answers to the entries of a file that was applied; false if another was due. */
+static bool tell_entries(const struct file *file, const struct entry *entries, size_t count)
+{
+    bool good = true;
+    for (size_t i = 0; i < count; i++) {
+        printf("  %s %s of %s", entries[i].function, entries[i].number, entries[i].company);
+        good = tell_due(file->answers.bytes[i], entries[i].answer) && good;
+    }
+    return good;
 }
 
 static bool take_entries(struct office *office, const struct heading *heading, const struct entry *entries,
     size_t count)
 {
-    const struct file file = frame_entries(heading, entries, count);
+    const struct file file = frame_entries(&DATA_FILE, heading, entries, count);
     struct hakkiyolu_taken taken;
     bool good = take_file(office, &file, &taken);
-    for (size_t i = 0; i < taken.records; i++) {
-        printf("  %s %s of %s", entries[i].function, entries[i].number, entries[i].company);
-        good = tell_due(file.answers.bytes[i], entries[i].answer) && good;
-    }
+    good = tell_entries(&file, entries, taken.records) && good;
     free_file(&file);
     return good;
 }
 
 /* ---- Looking --------------------------------------------------------------------------------------------------- */
+
+/* Where the record of a slot begins in its register. */
+static size_t record_at(size_t slot)
+{
+    return slot * HAKKIYOLU_REGISTER_SLOT_BYTES + HAKKIYOLU_SLOT_LINE_AT;
+}
 
 /* The record of a number that is held, as it stands in its slot; NULL if the number is not held. */
 static const uint8_t *held_record(const struct lent *reg, const char *number)
@@ -155,8 +196,7 @@ static const uint8_t *held_record(const struct lent *reg, const char *number)
         printf("%s is not held\n", number);
         return NULL;
     }
-    const size_t slot_at = (size_t)hakkiyolu_seen_slot(seen) * HAKKIYOLU_REGISTER_SLOT_BYTES;
-    return reg->bytes + slot_at + HAKKIYOLU_SLOT_LINE_AT;
+    return reg->bytes + record_at(hakkiyolu_seen_slot(seen));
 }
 
 /* Shows where the dispatcher would send the crew; false if the number is not held by the company. */
@@ -167,15 +207,15 @@ static bool show_street(const struct lent *reg, const char *number, const char *
         return false;
     }
     printf("%s shows", number);
-    print_part(line, RECORD_HOUSE);
-    print_part(line, RECORD_STREET);
-    print_part(line, RECORD_SUFFIX);
+    print_part(line, RECORD.house);
+    print_part(line, RECORD.street);
+    print_part(line, RECORD.suffix);
     printf(", ESN");
-    print_part(line, RECORD_ESN);
+    print_part(line, RECORD.esn);
     printf(", of");
-    print_part(line, RECORD_COMPANY);
+    print_part(line, RECORD.company);
     printf("\n");
-    return memcmp(line + RECORD_COMPANY.first - 1, company, strlen(company)) == 0;
+    return memcmp(line + RECORD.company.first - 1, company, strlen(company)) == 0;
 }
 
 /* ---- A tagged record ------------------------------------------------------------------------------------------- */
@@ -211,7 +251,7 @@ static bool take_record(struct office *office, const struct file *file)
     print_part(record, RECORD_FUNCTION);
     print_part(record, RECORD_NUMBER);
     printf(" of");
-    print_part(record, RECORD_COMPANY);
+    print_part(record, RECORD.company);
     return tell_due(file->answers.bytes[0], HAKKIYOLU_ANSWER_DONE);
 }
 
@@ -257,7 +297,7 @@ static bool load_to_text(const struct file *load, uint32_t entries)
     struct lent record = lend_copy(line_at(load, entries - 1), HAKKIYOLU_RECORD_BYTES);
     printf("%s in the load file, written tagged: ", TEXT_NUMBER);
     bool good = write_text(record.bytes, HAKKIYOLU_REFUSED_NO_TEXT);
-    put(record.bytes, RECORD_SOURCE, " ");
+    put(record.bytes, RECORD.source, " ");
     printf("%s with Source cleared, written tagged: ", TEXT_NUMBER);
     good = write_text(record.bytes, HAKKIYOLU_NOT_REFUSED) && good;
     free(record.bytes);
@@ -284,10 +324,28 @@ static bool apply_in_morning(struct office *office, const struct file *file)
     return good;
 }
 
+/*
+ * No other data file comes in this night, so what was checked is applied. Its cycle is the next after the last file of
+ * Version 2, and the next file of Version 2 follows it.
+ */
+static bool quiet_night(struct office *office)
+{
+    const struct file file = frame_entries(&V1_DATA_FILE, &HOTEL_HEADING, HOTEL, COUNT(HOTEL));
+    printf("in the evening a file of Version 1 is checked:\n");
+    const struct hakkiyolu_taken checked = check_file(office, &file);
+    printf("in the morning it is applied:\n");
+    const struct hakkiyolu_taken applied = apply_file(office, &file);
+    bool good = checked.refusal == HAKKIYOLU_NOT_REFUSED && applied.refusal == HAKKIYOLU_NOT_REFUSED
+        && checked.records == applied.records;
+    good = tell_entries(&file, HOTEL, applied.records) && good;
+    free_file(&file);
+    return good;
+}
+
 /* A check is no permit for the morning: here another file gets the cycle in between, and applying tests again. */
 static bool evening_and_morning(struct office *office)
 {
-    const struct file file = frame_entries(&EVENING_HEADING, EVENING, COUNT(EVENING));
+    const struct file file = frame_entries(&DATA_FILE, &EVENING_HEADING, EVENING, COUNT(EVENING));
     printf("in the evening a file is checked, to be applied in the morning:\n");
     const struct hakkiyolu_taken checked = check_file(office, &file);
     bool good = checked.refusal == HAKKIYOLU_NOT_REFUSED && checked.last == office->last_data;
@@ -328,7 +386,7 @@ static uint32_t slot_day(const uint8_t *slot)
 /* Two records are the same but for Function and Source. */
 static bool same_record(const uint8_t *a, const uint8_t *b)
 {
-    const size_t from = RECORD_FUNCTION.last, source = RECORD_SOURCE.first - 1, behind = RECORD_SOURCE.last;
+    const size_t from = RECORD_FUNCTION.last, source = RECORD.source.first - 1, behind = RECORD.source.last;
     return memcmp(a + from, b + from, source - from) == 0
         && memcmp(a + behind, b + behind, HAKKIYOLU_RECORD_BYTES - behind) == 0;
 }
@@ -341,7 +399,7 @@ static bool came_back(const uint8_t *before, const uint8_t *after)
 {
     const uint8_t *line = before + HAKKIYOLU_SLOT_LINE_AT;
     const bool was_open = before[0] == HAKKIYOLU_STATE_OPEN;
-    const uint32_t day = was_open ? day_number(line + RECORD_DATE.first - 1) : slot_day(before);
+    const uint32_t day = was_open ? day_number(line + RECORD.date.first - 1) : slot_day(before);
     return after[0] == HAKKIYOLU_STATE_HELD && slot_day(after) == day && memcmp(before + 5, after + 5, 3) == 0
         && same_record(line, after + HAKKIYOLU_SLOT_LINE_AT);
 }
@@ -390,25 +448,56 @@ static bool take_back(const struct office *office, const struct file *load, uint
     return good;
 }
 
-/* Writes the load file and takes it back. */
-static bool load_and_back(const struct office *office)
+/* Writes the load file into its room, which is for all slots, and tells it. */
+static struct hakkiyolu_loaded write_load(const struct office *office, const struct file *load)
 {
-    struct file load = {&LOAD_FILE, &LOAD_HEADING, lend(HAKKIYOLU_DATA_FILE_BYTES(SLOTS)), lend(SLOTS)};
     uint8_t name[HAKKIYOLU_NAME_BYTES];
     memset(name, ' ', sizeof name);
     memcpy(name, LOAD_HEADING.name, strlen(LOAD_HEADING.name));
-    const struct hakkiyolu_loaded loaded = hakkiyolu_write_load(office->reg.bytes, office->reg.length,
-        (const uint8_t *)LOAD_HEADING.date, HAKKIYOLU_DATE_BYTES, name, sizeof name, LOAD_CYCLE, load.whole.bytes,
-        load.whole.length);
-    bool good = loaded.refusal == HAKKIYOLU_NOT_REFUSED;
+    const struct hakkiyolu_loaded loaded = (is_v1(load) ? hakkiyolu_write_load_v1 : hakkiyolu_write_load)(
+        office->reg.bytes, office->reg.length, (const uint8_t *)LOAD_HEADING.date, HAKKIYOLU_DATE_BYTES, name,
+        sizeof name, LOAD_CYCLE, load->whole.bytes, load->whole.length);
+    if (loaded.refusal == HAKKIYOLU_NOT_REFUSED) {
+        printf("%s written: %u entries, %u bytes\n", load->kind->name, (unsigned)loaded.entries,
+            (unsigned)loaded.bytes);
+    } else {
+        printf("%s refused (%u), slot %u\n", load->kind->name, (unsigned)loaded.refusal, (unsigned)loaded.slot);
+    }
+    return loaded;
+}
+
+/* Writes a load file of this kind and takes it back; records of Version 2 have a tagged form, so that is tried too. */
+static bool load_and_back(const struct office *office, const struct kind *kind)
+{
+    struct file load = lend_file(kind, &LOAD_HEADING, SLOTS);
+    const struct hakkiyolu_loaded loaded = write_load(office, &load);
+    bool good = loaded.refusal == HAKKIYOLU_NOT_REFUSED && loaded.slot == 0;
     if (good) {
-        printf("load file written: %u entries, %u bytes\n", (unsigned)loaded.entries, (unsigned)loaded.bytes);
         load.whole.length = loaded.bytes;
         good = take_back(office, &load, loaded.entries);
-        good = load_to_text(&load, loaded.entries) && good;
-    } else {
-        printf("load file refused (%u)\n", (unsigned)loaded.refusal);
+        good = (is_v1(&load) || load_to_text(&load, loaded.entries)) && good;
     }
+    free_file(&load);
+    return good;
+}
+
+/*
+ * Version 1 has no field for the comments of the entry that came tagged, so no Version 1 load file is written, and the
+ * entry's slot is told. The caller then writes one of Version 2.
+ */
+static bool load_refused(const struct office *office)
+{
+    const struct file load = lend_file(&V1_LOAD_FILE, &LOAD_HEADING, SLOTS);
+    const struct hakkiyolu_loaded loaded = write_load(office, &load);
+    const uint8_t *record = held_record(&office->reg, TEXT_NUMBER);
+    const bool named = record != NULL && (size_t)(record - office->reg.bytes) == record_at(loaded.slot);
+    const bool good = loaded.refusal == HAKKIYOLU_REFUSED_NO_V1 && named
+        && all_zero(load.whole.bytes, load.whole.length);
+    if (named) {
+        printf("%s stands there, with comments:", TEXT_NUMBER);
+        print_part(record, RECORD_COMMENTS);
+    }
+    printf(good ? "\n" : " -- NOT AS EXPECTED\n");
     free_file(&load);
     return good;
 }
@@ -480,8 +569,12 @@ static bool run_circle(struct office *office)
     good = show_street(&office->reg, "5035550100", "NEWCO") && good;
     good = take_entries(office, &LATE_HEADING, LATE, COUNT(LATE)) && good;
     good = show_street(&office->reg, "5035550100", "NEWCO") && good;
+    good = quiet_night(office) && good;
+    good = show_street(&office->reg, "5035550106", "HOTEL") && good;
+    good = load_and_back(office, &V1_LOAD_FILE) && good;
     good = evening_and_morning(office) && good;
-    good = load_and_back(office) && good;
+    good = load_refused(office) && good;
+    good = load_and_back(office, &LOAD_FILE) && good;
     good = convert_old(&office->reg) && good;
     good = convert_late(&office->reg) && good;
     printf(good ? "the circle closes\n" : "THE CIRCLE DOES NOT CLOSE\n");

@@ -3,9 +3,10 @@
  * became of it.
  *
  * How a file is framed. It has a header of 200 bytes, lines of one length (512 bytes for a data record, 200 for a guide
- * row) and a trailer of 200 bytes, with nothing between them. Each of these begins as spaces and ends in `*`; a field's
- * text stands at the field's first position, and only the trailer's count stands at its end. Header and trailer have
- * the same date and name; the header's cycle is the next after the last file of this kind.
+ * row) and a trailer of 200 bytes, with nothing between them. In Version 1 header and trailer have 160 bytes, and a
+ * data record has 240. Each of these begins as spaces and ends in `*`; a field's text stands at the field's first
+ * position, and only the trailer's count stands at its end. Header and trailer have the same date and name; the
+ * header's cycle is the next after the last file of this kind, data files of both versions being one kind.
  */
 #ifndef FRAMES_H
 #define FRAMES_H
@@ -29,6 +30,7 @@ struct part {
     size_t first, last;
 };
 
+/* In both versions. */
 static const struct part RECORD_FUNCTION = {1, 1}, RECORD_NUMBER = {2, 11};
 
 static const struct part ROW_PREFIX = {1, 2}, ROW_STREET = {3, 62}, ROW_SUFFIX = {63, 66}, ROW_POST = {67, 68},
@@ -71,10 +73,17 @@ struct office {
 
 struct file;
 
-/* A kind of file: what it is called, the length of its lines, and its two calls on what an office keeps. */
+/* Data files and load files come in both, guide files in Version 2 alone. */
+enum version { VERSION_1 = 1, VERSION_2 = 2 };
+
+/*
+ * A kind of file: what it is called, its version, the length of its header and of its trailer, that of its lines, and
+ * its two calls on what an office keeps.
+ */
 struct kind {
     const char *name;
-    size_t line_length;
+    enum version version;
+    size_t frame_length, line_length;
     struct hakkiyolu_taken (*check)(const struct office *office, const struct file *file);
     struct hakkiyolu_taken (*apply)(struct office *office, const struct file *file);
 };
@@ -135,40 +144,39 @@ static void put_count(uint8_t *line, struct part part, size_t count)
     } while (count > 0);
 }
 
-static void write_header(uint8_t *line, const struct heading *heading)
+/* The room for a file of so many lines and for their answers. */
+static struct file lend_file(const struct kind *kind, const struct heading *heading, size_t count)
 {
-    clear(line, HAKKIYOLU_HEADER_BYTES);
-    put(line, FRAME_MARK, "UHL");
-    put(line, FRAME_DATE, heading->date);
-    put(line, FRAME_NAME, heading->name);
-    put(line, FRAME_CYCLE, heading->cycle);
+    const size_t length = kind->frame_length + kind->line_length * count + kind->frame_length;
+    return (struct file){kind, heading, lend(length), lend(count)};
 }
 
-static void write_trailer(uint8_t *line, const struct heading *heading, size_t count)
-{
-    clear(line, HAKKIYOLU_TRAILER_BYTES);
-    put(line, FRAME_MARK, "UTL");
-    put(line, FRAME_DATE, heading->date);
-    put(line, FRAME_NAME, heading->name);
-    put_count(line, FRAME_COUNT, count);
-}
-
-/* Line i, from 0, of a file. */
+/* Line i, from 0, of a file; the one behind its last is the trailer. */
 static uint8_t *line_at(const struct file *file, size_t i)
 {
-    return file->whole.bytes + HAKKIYOLU_HEADER_BYTES + file->kind->line_length * i;
+    return file->whole.bytes + file->kind->frame_length + file->kind->line_length * i;
+}
+
+/* Writes what header and trailer have in common. */
+static void write_frame(uint8_t *line, const struct file *file, const char *mark)
+{
+    clear(line, file->kind->frame_length);
+    put(line, FRAME_MARK, mark);
+    put(line, FRAME_DATE, file->heading->date);
+    put(line, FRAME_NAME, file->heading->name);
 }
 
 /* A file with so many empty lines between its header and its trailer. */
 static struct file frame(const struct kind *kind, const struct heading *heading, size_t count)
 {
-    const size_t length = HAKKIYOLU_HEADER_BYTES + kind->line_length * count + HAKKIYOLU_TRAILER_BYTES;
-    const struct file file = {kind, heading, lend(length), lend(count)};
-    write_header(file.whole.bytes, heading);
+    const struct file file = lend_file(kind, heading, count);
+    write_frame(file.whole.bytes, &file, "UHL");
+    put(file.whole.bytes, FRAME_CYCLE, heading->cycle);
     for (size_t i = 0; i < count; i++) {
         clear(line_at(&file, i), kind->line_length);
     }
-    write_trailer(line_at(&file, count), heading, count);
+    write_frame(line_at(&file, count), &file, "UTL");
+    put_count(line_at(&file, count), FRAME_COUNT, count);
     return file;
 }
 
@@ -255,18 +263,25 @@ static bool tell_file(const struct file *file, const struct hakkiyolu_taken *tak
 
 /* ---- Checking and applying ------------------------------------------------------------------------------------- */
 
+static bool is_v1(const struct file *file)
+{
+    return file->kind->version == VERSION_1;
+}
+
+/* The caller says which version, by the call; all that is given is the same, the last cycle too. */
 static struct hakkiyolu_taken check_data(const struct office *office, const struct file *file)
 {
-    return hakkiyolu_check_data(office->reg.bytes, office->reg.length, office->guide.bytes, office->guide.length,
-        file->whole.bytes, file->whole.length, file->answers.bytes, file->answers.length, office->last_data);
+    return (is_v1(file) ? hakkiyolu_check_data_v1 : hakkiyolu_check_data)(office->reg.bytes, office->reg.length,
+        office->guide.bytes, office->guide.length, file->whole.bytes, file->whole.length, file->answers.bytes,
+        file->answers.length, office->last_data);
 }
 
 /* Applying alone moves the last cycle on: after a check that did, the file itself would be refused by 6. */
 static struct hakkiyolu_taken apply_data(struct office *office, const struct file *file)
 {
-    const struct hakkiyolu_taken applied = hakkiyolu_apply_data(office->reg.bytes, office->reg.length,
-        office->guide.bytes, office->guide.length, file->whole.bytes, file->whole.length, file->answers.bytes,
-        file->answers.length, office->last_data);
+    const struct hakkiyolu_taken applied = (is_v1(file) ? hakkiyolu_apply_data_v1 : hakkiyolu_apply_data)(
+        office->reg.bytes, office->reg.length, office->guide.bytes, office->guide.length, file->whole.bytes,
+        file->whole.length, file->answers.bytes, file->answers.length, office->last_data);
     office->last_data = applied.last;
     return applied;
 }
@@ -286,8 +301,12 @@ static struct hakkiyolu_taken apply_guide(struct office *office, const struct fi
     return applied;
 }
 
-static const struct kind DATA_FILE = {"data file", HAKKIYOLU_RECORD_BYTES, check_data, apply_data},
-                         GUIDE_FILE = {"guide file", HAKKIYOLU_ROW_BYTES, check_guide, apply_guide};
+static const struct kind DATA_FILE = {"data file", VERSION_2, HAKKIYOLU_HEADER_BYTES, HAKKIYOLU_RECORD_BYTES,
+                             check_data, apply_data},
+                         V1_DATA_FILE = {"Version 1 data file", VERSION_1, HAKKIYOLU_V1_HEADER_BYTES,
+                             HAKKIYOLU_V1_RECORD_BYTES, check_data, apply_data},
+                         GUIDE_FILE = {"guide file", VERSION_2, HAKKIYOLU_HEADER_BYTES, HAKKIYOLU_ROW_BYTES,
+                             check_guide, apply_guide};
 
 /* Checks the file and tells it: nothing is changed, and applying tests again. */
 static struct hakkiyolu_taken check_file(const struct office *office, const struct file *file)

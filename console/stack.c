@@ -3,8 +3,9 @@
  *
  * A thread runs the call on a stack of our own that was painted before; the lowest word that changed tells how deep it
  * went, and the same with a call of nothing is subtracted. The stores are sound and not empty, and the files have lines
- * that are done and lines that are turned away, or a fault in the last byte of the last line; a register is converted,
- * or refused for its last slot; a tagged text has every label, as long as they can be, and is read, or refused for the
+ * that are done and lines that are turned away, or a fault in the last byte of the last line; a Version 1 load file is
+ * written, or refused for the last byte of its last entry that Version 1 has no place for; a register is converted, or
+ * refused for its last slot; a tagged text has every label, as long as they can be, and is read, or refused for the
  * last field that has a label; its record is written, or refused for the last label that can be without a form: a call
  * goes as deep as it can. The caller's arguments and result are counted; what is set aside below the lowest word that
  * was written is not seen.
@@ -25,12 +26,20 @@ enum { BOUND = 4096, SLOTS = 8, ROWS = 3, RECORDS = 5, PAD = 4096, WORDS = 32768
 /* Old days are counted from 010100, day 10957 now. The last of them that has a reading now becomes the last day. */
 enum { OLD_FIRST_DAY = 10957, OLD_LAST_DAY = 25567, LAST_DAY = 36524 };
 
-/* The lines of a file. Each width is that of a text's field and the blank ones behind it; a record's ESN is blank. */
-#define FRAME "%-5s101026%-50s%-138s*"
+/*
+ * The lines of a file. Each width is that of a text's field and the blank ones behind it; a record's ESN is blank. The
+ * widths in which the versions differ are given: a frame's number; a record's street, state and company.
+ */
+#define FRAME_WITH(number) "%-5s101026%-50s%-" #number "s*"
+#define FRAME FRAME_WITH(138)
+#define V1_FRAME FRAME_WITH(98)
 #define FRAME_OF(mark, number) mark, "MILL COUNTY", number
 #define ROW "  %-66s%-10s%-10s%-32sOR%s%-75s%s*"
 #define ROW_OF(code, low, high, parity) "MILL", low, high, "MILLBROOK", parity, "84", code
-#define RECORD "%s%-10s%-16s%-66s%-32s%-94s%-31s%-10s%-251s*"
+#define RECORD_WITH(street, state, company) \
+    "%s%-10s%-16s%-" #street "s%-32s%-" #state "s%-31s%-10s%-" #company "s*"
+#define RECORD RECORD_WITH(66, 94, 251)
+#define V1_RECORD RECORD_WITH(46, 54, 39)
 #define RECORD_OF(code, number, date) code, number, "104", "MILL", "MILLBROOK", "OR", "10", date, "OLDCO"
 
 /* A tagged text with every field full. A width is that of a value of zeros; the last byte of TAR is given. */
@@ -43,10 +52,13 @@ enum { OLD_FIRST_DAY = 10957, OLD_LAST_DAY = 25567, LAST_DAY = 36524 };
 /* The longest text has two bytes less than are always enough, as House Number has at most 8 digits in its 10 bytes. */
 enum { TEXT_BYTES = HAKKIYOLU_TAGGED_BYTES - 2, TAR_AT = 350, ZIP_END_AT = 275 };
 
+/* The last byte of a record for which Version 1 has no place, and the entry that gets it, the last one of two. */
+enum { RESERVED_END_AT = 511, LAST_ENTRY = 1 };
+
 /*
  * A call on a file, a number, a register, a text or a record, and what is due of it: lines checked, lines done, or the
- * fault's position; entries; slots looked at; the day in the last slot, or the refusal and the slot added up; bytes
- * written, or the refusal and the position added up.
+ * fault's position; entries, or the refusal and the slot added up; slots looked at; the day in the last slot, or the
+ * refusal and the slot added up; bytes written, or the refusal and the position added up.
  */
 struct call {
     const char *name;
@@ -63,7 +75,8 @@ static uint8_t *const last_slot = reg + sizeof reg - HAKKIYOLU_REGISTER_SLOT_BYT
 static uint8_t rec[HAKKIYOLU_RECORD_BYTES], bad_rec[sizeof rec], written[HAKKIYOLU_TAGGED_BYTES];
 static char text[TEXT_BYTES + 1], bad_text[sizeof text];
 static char rows[HAKKIYOLU_GUIDE_FILE_BYTES(ROWS) + 1], bad_rows[sizeof rows],
-    records[HAKKIYOLU_DATA_FILE_BYTES(RECORDS) + 1], first_records[sizeof records], bad_records[sizeof records];
+    records[HAKKIYOLU_DATA_FILE_BYTES(RECORDS) + 1], first_records[sizeof records], bad_records[sizeof records],
+    v1_records[HAKKIYOLU_V1_DATA_FILE_BYTES(RECORDS) + 1], bad_v1_records[sizeof v1_records];
 static uint32_t answered;
 
 /* The rows and the first records fill the stores; the rows then come again, and the records with a new number. */
@@ -83,6 +96,17 @@ static void write_files(void)
     bad_rows[sizeof rows - 1 - HAKKIYOLU_TRAILER_BYTES - 1] = ' ';
 }
 
+/* The records once more in Version 1, which has no U: the new number is deleted instead. */
+static void write_v1_files(void)
+{
+    snprintf(v1_records, sizeof v1_records, V1_FRAME V1_RECORD V1_RECORD V1_RECORD V1_RECORD V1_RECORD V1_FRAME,
+        FRAME_OF("UHL", "1"), RECORD_OF("I", "5035550102", "100126"), RECORD_OF("I", "5035550101", "100126"),
+        RECORD_OF("C", "5035550101", "100226"), RECORD_OF("D", "5035550102", "100326"),
+        RECORD_OF("D", "5035550199", "100326"), FRAME_OF("UTL", "        5"));
+    memcpy(bad_v1_records, v1_records, sizeof v1_records);
+    bad_v1_records[sizeof v1_records - 1 - HAKKIYOLU_V1_TRAILER_BYTES - 1] = ' ';
+}
+
 static uint32_t check_data(const void *file)
 {
     const struct hakkiyolu_taken checked = hakkiyolu_check_data(
@@ -94,6 +118,20 @@ static uint32_t apply_data(const void *file)
 {
     const struct hakkiyolu_taken applied = hakkiyolu_apply_data(
         reg, sizeof reg, guide, sizeof guide, file, sizeof records - 1, answers, sizeof answers, 0);
+    return applied.done + applied.position;
+}
+
+static uint32_t check_data_v1(const void *file)
+{
+    const struct hakkiyolu_taken checked = hakkiyolu_check_data_v1(
+        reg, sizeof reg, guide, sizeof guide, file, sizeof v1_records - 1, answers, sizeof answers, 0);
+    return checked.records + checked.position;
+}
+
+static uint32_t apply_data_v1(const void *file)
+{
+    const struct hakkiyolu_taken applied = hakkiyolu_apply_data_v1(
+        reg, sizeof reg, guide, sizeof guide, file, sizeof v1_records - 1, answers, sizeof answers, 0);
     return applied.done + applied.position;
 }
 
@@ -161,6 +199,17 @@ static uint32_t write_load(const void *header)
     const struct hakkiyolu_loaded loaded = hakkiyolu_write_load(reg, sizeof reg, date, HAKKIYOLU_DATE_BYTES, name,
         HAKKIYOLU_NAME_BYTES, HAKKIYOLU_CYCLE_MOST, load, sizeof load);
     return loaded.entries;
+}
+
+/* The same in Version 1, with this byte at the end of Reserved in the last entry. */
+static uint32_t write_load_v1(const void *reserved_end)
+{
+    const uint8_t *date = (const uint8_t *)rows + 5, *name = date + HAKKIYOLU_DATE_BYTES;
+    uint8_t *last_record = reg + HAKKIYOLU_REGISTER_SLOT_BYTES * LAST_ENTRY + HAKKIYOLU_SLOT_LINE_AT;
+    last_record[RESERVED_END_AT - 1] = *(const uint8_t *)reserved_end;
+    const struct hakkiyolu_loaded loaded = hakkiyolu_write_load_v1(reg, sizeof reg, date, HAKKIYOLU_DATE_BYTES, name,
+        HAKKIYOLU_NAME_BYTES, HAKKIYOLU_CYCLE_MOST, load, sizeof load);
+    return loaded.refusal == HAKKIYOLU_NOT_REFUSED ? loaded.entries : loaded.refusal + loaded.slot;
 }
 
 static uint32_t lookup(const void *number)
@@ -243,9 +292,15 @@ int main(void)
         {"check_data_refused", check_data, bad_records, HAKKIYOLU_RECORD_BYTES},
         {"apply_data", apply_data, records, 3},
         {"apply_data_refused", apply_data, bad_records, HAKKIYOLU_RECORD_BYTES},
+        {"check_data_v1", check_data_v1, v1_records, RECORDS},
+        {"check_data_v1_refused", check_data_v1, bad_v1_records, HAKKIYOLU_V1_RECORD_BYTES},
+        {"apply_data_v1", apply_data_v1, v1_records, 3},
+        {"apply_data_v1_refused", apply_data_v1, bad_v1_records, HAKKIYOLU_V1_RECORD_BYTES},
         {"check_guide", check_guide, rows, ROWS}, {"check_guide_refused", check_guide, bad_rows, HAKKIYOLU_ROW_BYTES},
         {"apply_guide", apply_guide, rows, 2}, {"apply_guide_refused", apply_guide, bad_rows, HAKKIYOLU_ROW_BYTES},
-        {"write_load", write_load, rows, 2}, {"convert_register", convert_register, old_reg, LAST_DAY},
+        {"write_load", write_load, rows, 2}, {"write_load_v1", write_load_v1, " ", 2},
+        {"write_load_v1_refused", write_load_v1, "R", HAKKIYOLU_REFUSED_NO_V1 + LAST_ENTRY},
+        {"convert_register", convert_register, old_reg, LAST_DAY},
         {"convert_register_refused", convert_register, late_reg, HAKKIYOLU_REFUSED_DAY + SLOTS - 1},
         {"read_tagged", read_tagged, text, HAKKIYOLU_RECORD_BYTES},
         {"read_tagged_refused", read_tagged, bad_text, HAKKIYOLU_REFUSED_RECORD + TAR_AT},
@@ -255,6 +310,7 @@ int main(void)
     };
     int status = 0;
     write_files();
+    write_v1_files();
     write_registers();
     write_texts();
     const size_t before = depth(&none);

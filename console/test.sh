@@ -93,32 +93,38 @@ cat >face.c <<'END'
 int main(void)
 {
     const uint64_t seen = hakkiyolu_lookup(NULL, 0, NULL, 0);
-    const struct hakkiyolu_taken data = hakkiyolu_apply_data(NULL, 0, NULL, 0, NULL, 0, NULL, 0, 7);
-    const struct hakkiyolu_taken guide = hakkiyolu_apply_guide(NULL, 0, NULL, 0, NULL, 0, NULL, 0, 8);
     const uint8_t *const none = NULL;
-    const struct hakkiyolu_taken checks[] = {
-        hakkiyolu_check_data(none, 0, none, 0, none, 0, none, 0, 9),
-        hakkiyolu_check_guide(none, 0, none, 0, none, 0, none, 0, 10),
+    const struct hakkiyolu_taken files[] = {
+        hakkiyolu_apply_data(NULL, 0, NULL, 0, NULL, 0, NULL, 0, 7),
+        hakkiyolu_apply_data_v1(NULL, 0, NULL, 0, NULL, 0, NULL, 0, 8),
+        hakkiyolu_apply_guide(NULL, 0, NULL, 0, NULL, 0, NULL, 0, 9),
+        hakkiyolu_check_data(none, 0, none, 0, none, 0, none, 0, 10),
+        hakkiyolu_check_data_v1(none, 0, none, 0, none, 0, none, 0, 11),
+        hakkiyolu_check_guide(none, 0, none, 0, none, 0, none, 0, 12),
     };
-    const struct hakkiyolu_loaded loaded = hakkiyolu_write_load(NULL, 0, NULL, 0, NULL, 0, 1, NULL, 0);
+    const struct hakkiyolu_loaded loads[] = {
+        hakkiyolu_write_load(NULL, 0, NULL, 0, NULL, 0, 1, NULL, 0),
+        hakkiyolu_write_load_v1(NULL, 0, NULL, 0, NULL, 0, 1, NULL, 0),
+    };
     const struct hakkiyolu_converted converted = hakkiyolu_convert_register(NULL, 0);
     const struct hakkiyolu_tagged read = hakkiyolu_read_tagged(NULL, 0, NULL, 0);
     const struct hakkiyolu_tagged written = hakkiyolu_write_tagged(NULL, 0, NULL, 0);
-    const int refused = hakkiyolu_seen_refusal(seen) == HAKKIYOLU_REFUSED_REGISTER
-        && data.refusal == HAKKIYOLU_REFUSED_REGISTER && guide.refusal == HAKKIYOLU_REFUSED_REGISTER
-        && loaded.refusal == HAKKIYOLU_REFUSED_REGISTER && converted.refusal == HAKKIYOLU_REFUSED_REGISTER;
-    const int rest = hakkiyolu_seen_looked(seen) == 0 && hakkiyolu_seen_slot(seen) == 0
-        && hakkiyolu_seen_state(seen) == HAKKIYOLU_STATE_ABSENT && data.last == 7 && guide.last == 8
-        && data.records == 0 && guide.records == 0 && loaded.bytes == 0 && loaded.entries == 0 && converted.slot == 0;
-    const int tagged = read.refusal == HAKKIYOLU_REFUSED_TEXT && read.position == 0 && read.bytes == 0
+    const int lookup = hakkiyolu_seen_refusal(seen) == HAKKIYOLU_REFUSED_REGISTER && hakkiyolu_seen_looked(seen) == 0
+        && hakkiyolu_seen_slot(seen) == 0 && hakkiyolu_seen_state(seen) == HAKKIYOLU_STATE_ABSENT;
+    const int rest = converted.refusal == HAKKIYOLU_REFUSED_REGISTER && converted.slot == 0
+        && read.refusal == HAKKIYOLU_REFUSED_TEXT && read.position == 0 && read.bytes == 0
         && written.refusal == HAKKIYOLU_REFUSED_RECORD && written.position == 0 && written.bytes == 0;
-    int checked = 1;
-    for (uint32_t i = 0; i < 2; i++) {
-        checked = checked && checks[i].refusal == HAKKIYOLU_REFUSED_REGISTER && checks[i].place == 0
-            && checks[i].position == 0 && checks[i].records == 0 && checks[i].done == 0 && checks[i].undone == 0
-            && checks[i].last == 9 + i;
+    int taken = 1, loaded = 1;
+    for (uint32_t i = 0; i < sizeof files / sizeof files[0]; i++) {
+        taken = taken && files[i].refusal == HAKKIYOLU_REFUSED_REGISTER && files[i].place == 0
+            && files[i].position == 0 && files[i].records == 0 && files[i].done == 0 && files[i].undone == 0
+            && files[i].last == 7 + i;
     }
-    return refused && rest && tagged && checked ? 0 : 1;
+    for (uint32_t i = 0; i < sizeof loads / sizeof loads[0]; i++) {
+        loaded = loaded && loads[i].refusal == HAKKIYOLU_REFUSED_REGISTER && loads[i].bytes == 0
+            && loads[i].entries == 0 && loads[i].slot == 0;
+    }
+    return lookup && rest && taken && loaded ? 0 : 1;
 }
 END
 cp face.c face.cpp
@@ -157,7 +163,8 @@ exports() {
 }
 
 exports "$lookup" lookup
-exports "$boundary" apply_data apply_guide check_data check_guide convert_register read_tagged write_load write_tagged
+exports "$boundary" apply_data apply_data_v1 apply_guide check_data check_data_v1 check_guide convert_register \
+    read_tagged write_load write_load_v1 write_tagged
 
 # ---- The programs ------------------------------------------------------------------------------------------------
 
@@ -202,27 +209,47 @@ data file of OLDCO TELEPHONE, cycle 3: 0 done, 2 not done
   C 5035550100 of OLDCO: turned away (16), another company holds the number
   C 5035550103 of OLDCO: turned away (15), the number is open
 5035550100 shows 109 MILL RD, ESN 85, of NEWCO
-in the evening a file is checked, to be applied in the morning:
-data file of NEWCO TELEPHONE, cycle 4: checked, 1 record
-before the morning another file of that cycle comes, and is taken:
-tagged record of 101 bytes: read
-data file of OLDCO TELEPHONE, cycle 4: checked, 1 record
-data file of OLDCO TELEPHONE, cycle 4: 1 done, 0 not done
-  I 5035550105 of OLDCO: done
-5035550105, written tagged: 101 bytes, the text that came
-in the morning the file that was checked is applied:
-data file of NEWCO TELEPHONE, cycle 4: refused (6), record 0, position 0
-its cycle went to the other file since the check; register and answers are unchanged
-load file written: 4 entries, 2448 bytes
-load file of REGISTER OFFICE, cycle 1: checked, 4 records
-load file of REGISTER OFFICE, cycle 1: 4 done, 0 not done
+in the evening a file of Version 1 is checked:
+Version 1 data file of GRAND HOTELS, cycle 4: checked, 4 records
+in the morning it is applied:
+Version 1 data file of GRAND HOTELS, cycle 4: 4 done, 0 not done
+  I 5035550106 of HOTEL: done
+  I 5035550107 of HOTEL: done
+  C 5035550106 of HOTEL: done
+  D 5035550107 of HOTEL: done
+5035550106 shows 52 MAIN ST, ESN 83, of HOTEL
+Version 1 load file written: 4 entries, 1280 bytes
+Version 1 load file of REGISTER OFFICE, cycle 1: checked, 4 records
+Version 1 load file of REGISTER OFFICE, cycle 1: 4 done, 0 not done
   slot 0, 5035550100: came back to slot 0
   slot 1, 5035550101: came back to slot 1
   slot 3, 5035550103: came back to slot 2
-  slot 4, 5035550105: came back to slot 3
+  slot 4, 5035550106: came back to slot 3
   the other 4 slots: free
+in the evening a file is checked, to be applied in the morning:
+data file of NEWCO TELEPHONE, cycle 5: checked, 1 record
+before the morning another file of that cycle comes, and is taken:
+tagged record of 123 bytes: read
+data file of OLDCO TELEPHONE, cycle 5: checked, 1 record
+data file of OLDCO TELEPHONE, cycle 5: 1 done, 0 not done
+  I 5035550105 of OLDCO: done
+5035550105, written tagged: 123 bytes, the text that came
+in the morning the file that was checked is applied:
+data file of NEWCO TELEPHONE, cycle 5: refused (6), record 0, position 0
+its cycle went to the other file since the check; register and answers are unchanged
+Version 1 load file refused (27), slot 6
+5035550105 stands there, with comments: DOOR IS IN MILL RD
+load file written: 5 entries, 2960 bytes
+load file of REGISTER OFFICE, cycle 1: checked, 5 records
+load file of REGISTER OFFICE, cycle 1: 5 done, 0 not done
+  slot 0, 5035550100: came back to slot 0
+  slot 1, 5035550101: came back to slot 1
+  slot 3, 5035550103: came back to slot 2
+  slot 4, 5035550106: came back to slot 3
+  slot 6, 5035550105: came back to slot 4
+  the other 3 slots: free
 5035550105 in the load file, written tagged: refused (37)
-5035550105 with Source cleared, written tagged: 101 bytes, the text that came
+5035550105 with Source cleared, written tagged: 123 bytes, the text that came
 converted an old register of 8 slots: same as today's
 a day after 2069 in slot 2: refused (28), nothing changed
 the circle closes"
@@ -388,8 +415,9 @@ fi
 quiet "stack builds" gcc -std=c11 -O2 -pthread "${warnings[@]}" "$root/console/stack.c" "$boundary" "$lookup" -o stack
 said=$(./stack 2>&1)
 status=$?
-for call in check_data check_data_refused apply_data apply_data_refused check_guide check_guide_refused apply_guide \
-    apply_guide_refused write_load convert_register convert_register_refused read_tagged read_tagged_refused \
+for call in check_data check_data_refused apply_data apply_data_refused check_data_v1 check_data_v1_refused \
+    apply_data_v1 apply_data_v1_refused check_guide check_guide_refused apply_guide apply_guide_refused write_load \
+    write_load_v1 write_load_v1_refused convert_register convert_register_refused read_tagged read_tagged_refused \
     write_tagged write_tagged_refused lookup_hit lookup_miss; do
     if line=$(grep -Ex "stack $call [0-9]+" <<<"$said"); then
         ok "$line"

@@ -7,13 +7,18 @@
  * screen. A register that was written when days counted from 010100 is converted once. A tagged data record (Version
  * 3.1) is read into a record of a data file, and written from one.
  *
+ * Data files and load files have 512-byte records (Version 2), or the 240-byte records that some private switches still
+ * file (Version 1); one register takes both. The calls on Version 1 files have names that end in `_v1`, those without
+ * are on Version 2 files. The caller says which version; nothing is guessed from lengths: 2960 bytes are 5 records of
+ * Version 2 or 11 of Version 1.
+ *
  * The register and the guide are plain bytes that the caller owns and lends to each call. Every call answers every
  * input, however damaged: it has no error besides the numbers below.
  *
  * Libraries: hakkiyolu_lookup is in liblookup.a; hakkiyolu_check_data, hakkiyolu_apply_data, hakkiyolu_check_guide,
- * hakkiyolu_apply_guide, hakkiyolu_write_load, hakkiyolu_convert_register, hakkiyolu_read_tagged and
- * hakkiyolu_write_tagged are in libboundary.a. Neither needs the other, and both may be linked into one program in
- * either order.
+ * hakkiyolu_apply_guide, hakkiyolu_write_load, hakkiyolu_check_data_v1, hakkiyolu_apply_data_v1,
+ * hakkiyolu_write_load_v1, hakkiyolu_convert_register, hakkiyolu_read_tagged and hakkiyolu_write_tagged are in
+ * libboundary.a. Neither needs the other, and both may be linked into one program in either order.
  *
  * RULES FOR BUFFERS, the same for every call. Each buffer is a pointer and, right behind it, its length in bytes.
  *
@@ -57,15 +62,25 @@ extern "C" {
 #define HAKKIYOLU_RECORD_BYTES 512u
 /* One row of a guide file. */
 #define HAKKIYOLU_ROW_BYTES 200u
-/* The header of every file, its first line. */
+/* The header of every file but those of Version 1, its first line. */
 #define HAKKIYOLU_HEADER_BYTES 200u
-/* The trailer of every file, its last line. */
+/* The trailer of every file but those of Version 1, its last line. */
 #define HAKKIYOLU_TRAILER_BYTES 200u
 /* A file has 0 to this many records or rows. */
 #define HAKKIYOLU_RECORDS_MOST 9999u
 
+/* One record of a Version 1 data file or load file. */
+#define HAKKIYOLU_V1_RECORD_BYTES 240u
+/* The header of such a file: as the longer one, but its free part is from 68 to 159, and its `*` is 160. */
+#define HAKKIYOLU_V1_HEADER_BYTES 160u
+/* The trailer of such a file: as the longer one, but its free part is from 71 to 159, and its `*` is 160. */
+#define HAKKIYOLU_V1_TRAILER_BYTES 160u
+
 /* The length of a data file, or a load file, of n records. */
 #define HAKKIYOLU_DATA_FILE_BYTES(n) (HAKKIYOLU_HEADER_BYTES + HAKKIYOLU_RECORD_BYTES * (n) + HAKKIYOLU_TRAILER_BYTES)
+/* The length of a Version 1 data file, or a Version 1 load file, of n records. */
+#define HAKKIYOLU_V1_DATA_FILE_BYTES(n) \
+    (HAKKIYOLU_V1_HEADER_BYTES + HAKKIYOLU_V1_RECORD_BYTES * (n) + HAKKIYOLU_V1_TRAILER_BYTES)
 /* The length of a guide file of n rows. */
 #define HAKKIYOLU_GUIDE_FILE_BYTES(n) (HAKKIYOLU_HEADER_BYTES + HAKKIYOLU_ROW_BYTES * (n) + HAKKIYOLU_TRAILER_BYTES)
 
@@ -93,9 +108,9 @@ enum hakkiyolu_state {
 
 /*
  * Why a call was refused. The refusals of checking a file, and of applying it, are tried in the order of their numbers,
- * and the first that holds is told. Those of a load file are tried in the order 1, 26, 25; those of a conversion in the
- * order 1, 28; those of a lookup in the order 1, 10; those of reading a tagged text in the order 33, 34, 35, 36, 9, 25,
- * each over the whole text; those of writing one in the order 9, 37, 25.
+ * and the first that holds is told. Those of a load file are tried in the order 1, 26, 25, in Version 1 in the order 1,
+ * 26, 27, 25; those of a conversion in the order 1, 28; those of a lookup in the order 1, 10; those of reading a tagged
+ * text in the order 33, 34, 35, 36, 9, 25, each over the whole text; those of writing one in the order 9, 37, 25.
  */
 enum hakkiyolu_refusal {
     HAKKIYOLU_NOT_REFUSED = 0,          /* the call was done */
@@ -112,6 +127,7 @@ enum hakkiyolu_refusal {
     HAKKIYOLU_REFUSED_NUMBER = 10,      /* the number looked up is not ten digits */
     HAKKIYOLU_REFUSED_OUTPUT = 25,      /* the output is too short for the load file, the record or the tagged text */
     HAKKIYOLU_REFUSED_LOAD_HEADER = 26, /* date, name or cycle wrong for a header, or the date before an entry's day */
+    HAKKIYOLU_REFUSED_NO_V1 = 27,       /* a Version 1 load file: an entry has no Version 1 form, `slot` tells which */
     HAKKIYOLU_REFUSED_DAY = 28,         /* a conversion: a stored day has no reading now, `slot` tells which */
     HAKKIYOLU_REFUSED_TEXT = 33,        /* a tagged text has no `DAT` at its start, or no newline at its end */
     HAKKIYOLU_REFUSED_LABEL = 34,       /* a label that is not taken, or is cut short */
@@ -158,13 +174,15 @@ struct hakkiyolu_taken {
     uint32_t done;     /* applied: how many answers are 0 */
     uint32_t undone;   /* applied: how many answers are not 0; `done` and `undone` add up to `records` */
     uint32_t last;     /* the last cycle after the call: keep it, and give it to the next call on a file of this kind */
+                       /* (data files of both versions are one kind) */
 };
 
 /* What writing a load file returns. If it was refused, `bytes` and `entries` are 0. */
 struct hakkiyolu_loaded {
-    uint32_t refusal; /* 0, or the refusal 1, 25 or 26 (enum hakkiyolu_refusal) */
+    uint32_t refusal; /* 0, or the refusal 1, 25, 26 or, in Version 1 alone, 27 (enum hakkiyolu_refusal) */
     uint32_t bytes;   /* how many bytes were written: the load file is that many bytes at the start of the output */
     uint32_t entries; /* how many entries, held or open, the load file has */
+    uint32_t slot;    /* refusal 27: the lowest slot whose entry has no Version 1 form, from 0; otherwise 0 */
 };
 
 /* What converting a register returns. */
@@ -197,9 +215,9 @@ struct hakkiyolu_tagged {
  *   file, file_length        the data file: header, records of 512 bytes, trailer
  *   answers, answers_length  the answers as they will be lent to applying. Only the length counts (refusal 4), no byte
  *                            is read or written: so the same list of arguments may be written twice
- *   last                     the cycle of the last data file applied to this register, 0 if none yet. A second file of
- *                            the same evening is checked with the cycle in the first one's header, since the first is
- *                            not applied yet
+ *   last                     the cycle of the last data file applied to this register, of either version, 0 if none
+ *                            yet. A second file of the same evening is checked with the cycle in the first one's
+ *                            header, since the first is not applied yet
  */
 struct hakkiyolu_taken hakkiyolu_check_data(
     const uint8_t *reg, size_t reg_length,
@@ -217,7 +235,7 @@ struct hakkiyolu_taken hakkiyolu_check_data(
  *   file, file_length        the data file: header, records of 512 bytes, trailer
  *   answers, answers_length  one byte for each record, written; bytes past the last record stay as they are, and in a
  *                            file that is refused all do
- *   last                     the cycle of the last data file applied to this register, 0 if none yet
+ *   last                     the cycle of the last data file applied to this register, of either version, 0 if none yet
  */
 struct hakkiyolu_taken hakkiyolu_apply_data(
     uint8_t *reg, size_t reg_length,
@@ -277,6 +295,69 @@ struct hakkiyolu_taken hakkiyolu_apply_guide(
  *   out, out_length    the output, written; bytes past the load file stay as they are, and if refused all do
  */
 struct hakkiyolu_loaded hakkiyolu_write_load(
+    const uint8_t *reg, size_t reg_length,
+    const uint8_t *date, size_t date_length,
+    const uint8_t *name, size_t name_length,
+    uint32_t cycle,
+    uint8_t *out, size_t out_length);
+
+/*
+ * Checks a Version 1 data file, as hakkiyolu_check_data checks one of Version 2: with the same parameters, in the same
+ * sequence of cycles, changing nothing and no permit.
+ *
+ *   file, file_length  the data file: header of 160 bytes, records of 240 bytes, trailer of 160 bytes
+ *   the others         as in hakkiyolu_check_data; `last` is the one cycle that is kept for data files of both versions
+ *
+ * Each record is taken as if it had come in Version 2: the same fields, each with blanks behind it.
+ *
+ *   Version 1   Version 2   fields
+ *     1- 27       1- 27     Function to Prefix Directional
+ *    28- 67      28- 87     Street Name
+ *    68-107      88-127     Street Suffix to State
+ *   108-127     128-187     Location
+ *   128-226     188-286     Customer Name to General Use
+ *      -        287-355     Customer Code to TAR: blank
+ *   227-239     356-511     Reserved
+ *     240         512       `*`
+ *
+ * The refusals differ in two things. 3 goes by 240 and 160 bytes. In 9 `position` is one of the 240 bytes (a bad class
+ * is at 160, not at 220), and Function is C, D or I: Version 1 has no U and no M, they are refused at 1. A file lent to
+ * the call of the other version is refused by 3 unless its length fits both, and then, as a rule, by 4 or 5.
+ */
+struct hakkiyolu_taken hakkiyolu_check_data_v1(
+    const uint8_t *reg, size_t reg_length,
+    const uint8_t *guide, size_t guide_length,
+    const uint8_t *file, size_t file_length,
+    const uint8_t *answers, size_t answers_length,
+    uint32_t last);
+
+/*
+ * Applies a Version 1 data file, as hakkiyolu_apply_data applies one of Version 2: with the same parameters and the
+ * same answers. What is stored is the record in Version 2, so a lookup, a load file or a later record of either version
+ * finds the number as if it had come so.
+ *
+ *   file, file_length  the data file: header of 160 bytes, records of 240 bytes, trailer of 160 bytes
+ *   the others         as in hakkiyolu_apply_data; `last` is the one cycle that is kept for data files of both versions
+ */
+struct hakkiyolu_taken hakkiyolu_apply_data_v1(
+    uint8_t *reg, size_t reg_length,
+    const uint8_t *guide, size_t guide_length,
+    const uint8_t *file, size_t file_length,
+    uint8_t *answers, size_t answers_length,
+    uint32_t last);
+
+/*
+ * Writes a Version 1 load file, as hakkiyolu_write_load writes one of Version 2: with the same parameters, the same
+ * entries, Function `I` and Source `C`. HAKKIYOLU_V1_DATA_FILE_BYTES(slots of the register) bytes of output are always
+ * enough.
+ *
+ * Refusal 27 is for a held or open entry that Version 1 cannot say whole: something stands in a field that only Version
+ * 2 has (Customer Code to TAR, positions 287 to 355 of its record), or behind what Version 1 has of a longer field
+ * (Street Name from 68, its 41st byte; Location from 148, its 21st; Reserved from 369, its 14th). Nothing is cut off:
+ * write the load file by hakkiyolu_write_load, or have the entry's company change it. `slot` is the lowest such slot.
+ * 27 comes after 26 and before 25, so it is told where no output is lent, too.
+ */
+struct hakkiyolu_loaded hakkiyolu_write_load_v1(
     const uint8_t *reg, size_t reg_length,
     const uint8_t *date, size_t date_length,
     const uint8_t *name, size_t name_length,
@@ -457,10 +538,11 @@ HAKKIYOLU_ASSERT(offsetof(struct hakkiyolu_taken, records) == 12, "records is at
 HAKKIYOLU_ASSERT(offsetof(struct hakkiyolu_taken, done) == 16, "done is at 16");
 HAKKIYOLU_ASSERT(offsetof(struct hakkiyolu_taken, undone) == 20, "undone is at 20");
 HAKKIYOLU_ASSERT(offsetof(struct hakkiyolu_taken, last) == 24, "last is at 24");
-HAKKIYOLU_ASSERT(sizeof(struct hakkiyolu_loaded) == 12, "hakkiyolu_loaded has 12 bytes");
+HAKKIYOLU_ASSERT(sizeof(struct hakkiyolu_loaded) == 16, "hakkiyolu_loaded has 16 bytes");
 HAKKIYOLU_ASSERT(offsetof(struct hakkiyolu_loaded, refusal) == 0, "refusal is at 0");
 HAKKIYOLU_ASSERT(offsetof(struct hakkiyolu_loaded, bytes) == 4, "bytes is at 4");
 HAKKIYOLU_ASSERT(offsetof(struct hakkiyolu_loaded, entries) == 8, "entries is at 8");
+HAKKIYOLU_ASSERT(offsetof(struct hakkiyolu_loaded, slot) == 12, "slot is at 12");
 HAKKIYOLU_ASSERT(sizeof(struct hakkiyolu_converted) == 8, "hakkiyolu_converted has 8 bytes");
 HAKKIYOLU_ASSERT(offsetof(struct hakkiyolu_converted, refusal) == 0, "refusal is at 0");
 HAKKIYOLU_ASSERT(offsetof(struct hakkiyolu_converted, slot) == 4, "slot is at 4");

@@ -9,7 +9,7 @@
 
 use outside::face::Library;
 use outside::model::layout::{GUIDE_SLOT, MOST_RECORDS, MOST_SLOTS, RECORD, REGISTER_SLOT, ROW};
-use outside::model::{Tagged, Taken};
+use outside::model::{Tagged, Taken, Version};
 use outside::subject::Subject;
 use std::io::{self, BufWriter, Write};
 use std::process::ExitCode;
@@ -332,11 +332,11 @@ fn take_records(
     let file = frame("ALPHA TELEPHONE", name.cycle, records, lines.len());
     let mut answers = vec![0; lines.len()];
     let (register, guide) = (&mut office.register, &office.guide);
-    let checked = Library.check_data(register, guide, &file, &answers, last);
+    let checked = Library.check_data(Version::Two, register, guide, &file, &answers, last);
     if !tell_checked(out, &name, &checked)? {
         return Ok(false);
     }
-    let taken = Library.apply_data(register, guide, &file, &mut answers, last);
+    let taken = Library.apply_data(Version::Two, register, guide, &file, &mut answers, last);
     office.last_data = taken.last;
     tell_applied(out, &name, &taken)?;
     for (line, answer) in lines.iter().zip(&answers).take(taken.records as usize) {

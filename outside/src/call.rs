@@ -1,10 +1,10 @@
 //! A call as data: what is lent, what comes back, and how two outcomes differ.
 
 use crate::lent::Lent;
-use crate::model::{Tagged, Taken};
+use crate::model::{Loaded, Tagged, Taken, Version};
 use crate::subject::Subject;
 
-/// One of the nine functions.
+/// One of the functions, of either version.
 #[derive(Clone, Copy, Debug, PartialEq, Eq)]
 pub enum Op {
     /// Checks a data file.
@@ -42,17 +42,6 @@ impl Op {
         Op::ReadTagged,
         Op::WriteTagged,
     ];
-    /// Those of files and stores; the others are of tagged texts.
-    pub const OF_FILES: [Op; 7] = [
-        Op::CheckData,
-        Op::CheckGuide,
-        Op::ApplyData,
-        Op::ApplyGuide,
-        Op::Lookup,
-        Op::WriteLoad,
-        Op::ConvertRegister,
-    ];
-
     /// The name in a calls file.
     pub fn name(self) -> &'static str {
         match self {
@@ -80,6 +69,11 @@ impl Op {
     /// Whether it is lent a file of data records.
     pub fn has_records(self) -> bool {
         matches!(self, Op::CheckData | Op::ApplyData)
+    }
+
+    /// Whether the caller says which version its file has, or shall have.
+    pub fn has_version(self) -> bool {
+        self.has_records() || self == Op::WriteLoad
     }
 
     /// The given number's name, empty if none is given.
@@ -112,7 +106,7 @@ impl Op {
                 "refusal", "place", "position", "n", "done", "undone", "last",
             ],
             Op::Lookup => &["refusal", "state", "slot", "looked"],
-            Op::WriteLoad => &["refusal", "bytes", "entries"],
+            Op::WriteLoad => &["refusal", "bytes", "entries", "slot"],
             Op::ConvertRegister => &["refusal", "slot"],
             Op::ReadTagged | Op::WriteTagged => &["refusal", "position", "bytes"],
         }
@@ -124,6 +118,8 @@ impl Op {
 pub struct Call {
     /// Which function.
     pub op: Op,
+    /// Of which version, where it has one; Version 2 elsewhere.
+    pub version: Version,
     /// Last cycle or cycle.
     pub given: u32,
     /// The lent buffers, in the order of `Op::lent`.
@@ -153,6 +149,7 @@ impl Call {
     pub fn convert(register: Vec<u8>) -> Self {
         Call {
             op: Op::ConvertRegister,
+            version: Version::Two,
             given: 0,
             lent: vec![register],
         }
@@ -162,6 +159,7 @@ impl Call {
     pub fn tagged(op: Op, lent: Vec<u8>, out: Vec<u8>) -> Self {
         Call {
             op,
+            version: Version::Two,
             given: 0,
             lent: vec![lent, out],
         }
@@ -217,8 +215,8 @@ impl Call {
             }
             (Op::WriteLoad, [register, date, name, out]) => {
                 let (register, date, name) = (register.bytes(), date.bytes(), name.bytes());
-                let loaded = subject.write_load(register, date, name, given, out.bytes_mut());
-                vec![loaded.refusal, loaded.bytes, loaded.entries]
+                let (version, out) = (self.version, out.bytes_mut());
+                loaded_numbers(&subject.write_load(version, register, date, name, given, out))
             }
             (Op::ConvertRegister, [register]) => {
                 let converted = subject.convert_register(register.bytes_mut());
@@ -246,17 +244,18 @@ impl Call {
         file: &[u8],
         answers: &mut Lent,
     ) -> Taken {
-        let last = self.given;
+        let (version, last) = (self.version, self.given);
         match self.op {
             Op::CheckData => {
-                subject.check_data(register.bytes(), guide.bytes(), file, answers.bytes(), last)
+                let (register, answers) = (register.bytes(), answers.bytes());
+                subject.check_data(version, register, guide.bytes(), file, answers, last)
             }
             Op::CheckGuide => {
                 subject.check_guide(register.bytes(), guide.bytes(), file, answers.bytes(), last)
             }
             Op::ApplyData => {
                 let (register, answers) = (register.bytes_mut(), answers.bytes_mut());
-                subject.apply_data(register, guide.bytes(), file, answers, last)
+                subject.apply_data(version, register, guide.bytes(), file, answers, last)
             }
             Op::ApplyGuide => {
                 let (guide, answers) = (guide.bytes_mut(), answers.bytes_mut());
@@ -288,6 +287,10 @@ impl Call {
         }
         None
     }
+}
+
+fn loaded_numbers(loaded: &Loaded) -> Vec<u32> {
+    vec![loaded.refusal, loaded.bytes, loaded.entries, loaded.slot]
 }
 
 fn tagged_numbers(tagged: &Tagged) -> Vec<u32> {

@@ -3,11 +3,11 @@
 
 use crate::call::{Call, Op};
 use crate::explore::{Explorer, Finding};
-use crate::gen::{file, put, NAME};
+use crate::gen::{file_of, put, records_of, NAME};
 use crate::model::date::day;
-use crate::model::layout::{record, EDGES, RECORD, REGISTER_SLOT, SLOT_HEAD};
+use crate::model::layout::{record, RECORD, REGISTER_SLOT, SLOT_HEAD};
 use crate::model::store::{HELD, OPEN, RESTING};
-use crate::model::Described;
+use crate::model::{Described, Version};
 use crate::subject::Subject;
 use crate::town;
 
@@ -60,40 +60,46 @@ impl<A: Subject, B: Subject> Explorer<'_, A, B> {
         Ok(())
     }
 
-    /// The apply of a file of this date with this record.
+    /// The applies of files of this date with this record, of either version.
     fn record(
         &mut self,
         register: &[u8],
         date: &[u8; 6],
         whole: [u8; RECORD],
     ) -> Result<(), Finding> {
-        let call = Call {
-            op: Op::ApplyData,
-            given: 0,
-            lent: vec![
-                register.to_vec(),
-                town::guide(1),
-                file(date, 1, &whole, 1),
-                vec![0xee],
-            ],
-        };
-        self.compare(&call, 5)?;
+        for version in Version::BOTH {
+            // Version 1 has no M, which is tried elsewhere.
+            if version == Version::One && whole[0] == b'M' {
+                continue;
+            }
+            let file = file_of(version, date, 1, &records_of(version, &[whole]), 1);
+            let call = Call {
+                op: Op::ApplyData,
+                version,
+                given: 0,
+                lent: vec![register.to_vec(), town::guide(1), file, vec![0xee]],
+            };
+            self.compare(&call, 5)?;
+        }
         Ok(())
     }
 
-    /// The load file of this date.
+    /// The load files of this date, of either version.
     fn load(&mut self, register: &[u8], date: &[u8; 6]) -> Result<(), Finding> {
-        let call = Call {
-            op: Op::WriteLoad,
-            given: 1,
-            lent: vec![
-                register.to_vec(),
-                date.to_vec(),
-                NAME.to_vec(),
-                vec![0xee; EDGES + RECORD],
-            ],
-        };
-        self.compare(&call, 6)?;
+        for version in Version::BOTH {
+            let call = Call {
+                op: Op::WriteLoad,
+                version,
+                given: 1,
+                lent: vec![
+                    register.to_vec(),
+                    date.to_vec(),
+                    NAME.to_vec(),
+                    vec![0xee; version.file(1)],
+                ],
+            };
+            self.compare(&call, 6)?;
+        }
         Ok(())
     }
 }

@@ -2,30 +2,67 @@
 //! came up.
 
 use crate::call::{Call, Op, Outcome};
-use crate::model::layout::{record, row, Field, EDGE, RECORD, ROW};
+use crate::model::layout::{row, Field, RECORD, ROW};
+use crate::model::Version;
 use crate::occasions::OCCASIONS;
 
 /// The parts of files that bytes are damaged in.
 #[derive(Clone, Copy, Debug, PartialEq, Eq)]
 pub enum Part {
-    /// A header.
-    Header,
+    /// A header; a guide file's is of Version 2.
+    Header(Version),
     /// A trailer.
-    Trailer,
+    Trailer(Version),
     /// A data record.
-    Record,
+    Record(Version),
     /// A guide row.
     Row,
 }
 
 impl Part {
-    /// All parts with their lengths.
-    pub const ALL: [(Part, usize); 4] = [
-        (Part::Header, EDGE),
-        (Part::Trailer, EDGE),
-        (Part::Record, RECORD),
-        (Part::Row, ROW),
+    /// All of them.
+    const ALL: [Part; 7] = [
+        Part::Header(Version::Two),
+        Part::Trailer(Version::Two),
+        Part::Record(Version::Two),
+        Part::Row,
+        Part::Header(Version::One),
+        Part::Trailer(Version::One),
+        Part::Record(Version::One),
     ];
+
+    /// Its bytes.
+    fn length(self) -> usize {
+        match self {
+            Part::Header(version) | Part::Trailer(version) => version.edge(),
+            Part::Record(version) => version.record(),
+            Part::Row => ROW,
+        }
+    }
+
+    /// In words.
+    fn name(self) -> String {
+        match self {
+            Part::Header(version) => format!("{}Header", of(version)),
+            Part::Trailer(version) => format!("{}Trailer", of(version)),
+            Part::Record(version) => format!("{}Record", of(version)),
+            Part::Row => "Row".to_string(),
+        }
+    }
+
+    /// Its place among all.
+    fn index(self) -> usize {
+        let place = Part::ALL.iter().position(|part| *part == self);
+        place.expect("one of all")
+    }
+}
+
+/// What stands before a name where Version 1 is meant.
+fn of(version: Version) -> &'static str {
+    match version {
+        Version::One => "Version 1 ",
+        Version::Two => "",
+    }
 }
 
 /// What counts the calls of a kind of runs.
@@ -40,17 +77,37 @@ pub trait Notes: Default {
 
 /// Refusal numbers of files and stores go to 28.
 const NUMBERS: usize = 29;
-/// Calls of files and stores.
-const OPS: usize = Op::OF_FILES.len();
+
+/// The counts of one call of files and stores.
+#[derive(Clone)]
+struct Counts {
+    refusals: [u64; NUMBERS],
+    answers: [u64; NUMBERS],
+    faults: [u64; RECORD + 1],
+}
+
+/// The calls of files and stores, with the versions that they are made of.
+const KINDS: [(Op, Version); 10] = [
+    (Op::CheckData, Version::Two),
+    (Op::CheckData, Version::One),
+    (Op::CheckGuide, Version::Two),
+    (Op::ApplyData, Version::Two),
+    (Op::ApplyData, Version::One),
+    (Op::ApplyGuide, Version::Two),
+    (Op::Lookup, Version::Two),
+    (Op::WriteLoad, Version::Two),
+    (Op::WriteLoad, Version::One),
+    (Op::ConvertRegister, Version::Two),
+];
 
 /// The counts of runs of files.
 pub struct Coverage {
-    refusals: [[u64; NUMBERS]; OPS],
-    answers: [[u64; NUMBERS]; OPS],
-    faults: [[u64; RECORD + 1]; OPS],
-    damaged: [[u64; RECORD]; 4],
+    counts: Vec<Counts>,
+    damaged: [[u64; RECORD]; Part::ALL.len()],
     occasions: [u64; OCCASIONS.len()],
-    mornings: [u64; Morning::BOTH.len()],
+    mornings: [u64; Morning::ALL.len()],
+    /// Runs with records accepted of both versions.
+    mixed: u64,
 }
 
 /// What becomes in the morning of a file that was checked good in the evening.
@@ -58,18 +115,32 @@ pub struct Coverage {
 pub enum Morning {
     /// No other file of its kind was applied.
     Kept,
-    /// Another one was.
+    /// Another one was, of the same version.
     Overtaken,
+    /// Another one was, of the other version: the cycles are one sequence.
+    OvertakenByOther,
 }
 
 impl Morning {
-    const BOTH: [Morning; 2] = [Morning::Kept, Morning::Overtaken];
+    const ALL: [Morning; 3] = [Morning::Kept, Morning::Overtaken, Morning::OvertakenByOther];
+
+    /// Behind a file that was applied.
+    pub fn behind(waiting: &Call, applied: &Call) -> Self {
+        if waiting.version == applied.version {
+            Morning::Overtaken
+        } else {
+            Morning::OvertakenByOther
+        }
+    }
 
     /// In words.
     pub fn name(self) -> &'static str {
         match self {
             Morning::Kept => "a good check, no file of its kind applied, then 0",
             Morning::Overtaken => "a good check, another file applied, then 6",
+            Morning::OvertakenByOther => {
+                "a good check, a file of the other version applied, then 6"
+            }
         }
     }
 
@@ -77,50 +148,56 @@ impl Morning {
     pub fn refusal(self) -> u32 {
         match self {
             Morning::Kept => 0,
-            Morning::Overtaken => 6,
+            Morning::Overtaken | Morning::OvertakenByOther => 6,
         }
     }
 }
 
 impl Default for Coverage {
     fn default() -> Self {
+        let none = Counts {
+            refusals: [0; NUMBERS],
+            answers: [0; NUMBERS],
+            faults: [0; RECORD + 1],
+        };
         Coverage {
-            refusals: [[0; NUMBERS]; OPS],
-            answers: [[0; NUMBERS]; OPS],
-            faults: [[0; RECORD + 1]; OPS],
-            damaged: [[0; RECORD]; 4],
+            counts: vec![none; KINDS.len()],
+            damaged: [[0; RECORD]; Part::ALL.len()],
             occasions: [0; OCCASIONS.len()],
-            mornings: [0; Morning::BOTH.len()],
+            mornings: [0; Morning::ALL.len()],
+            mixed: 0,
         }
     }
 }
 
 /// The refusals that each function can give, no refusal among them.
-fn refusals(op: Op) -> &'static [usize] {
-    match op {
-        Op::CheckData | Op::CheckGuide | Op::ApplyData | Op::ApplyGuide => {
+fn refusals(op: Op, version: Version) -> &'static [usize] {
+    match (op, version) {
+        (Op::CheckData | Op::CheckGuide | Op::ApplyData | Op::ApplyGuide, _) => {
             &[0, 1, 2, 3, 4, 5, 6, 7, 8, 9]
         }
-        Op::Lookup => &[0, 1, 10],
-        Op::WriteLoad => &[0, 1, 25, 26],
-        Op::ConvertRegister => &[0, 1, 28],
-        Op::ReadTagged | Op::WriteTagged => &[],
+        (Op::Lookup, _) => &[0, 1, 10],
+        (Op::WriteLoad, Version::One) => &[0, 1, 25, 26, 27],
+        (Op::WriteLoad, Version::Two) => &[0, 1, 25, 26],
+        (Op::ConvertRegister, _) => &[0, 1, 28],
+        (Op::ReadTagged | Op::WriteTagged, _) => &[],
     }
 }
 
-/// The answers that each apply can give.
-fn answers(op: Op) -> &'static [usize] {
-    match op {
-        Op::ApplyData => &[0, 11, 12, 13, 14, 15, 16, 17, 18, 19, 20],
-        Op::ApplyGuide => &[0, 21, 22, 23, 24],
+/// The answers that each apply can give; 14 is to an M alone.
+fn answers(op: Op, version: Version) -> &'static [usize] {
+    match (op, version) {
+        (Op::ApplyData, Version::One) => &[0, 11, 12, 13, 15, 16, 17, 18, 19, 20],
+        (Op::ApplyData, Version::Two) => &[0, 11, 12, 13, 14, 15, 16, 17, 18, 19, 20],
+        (Op::ApplyGuide, _) => &[0, 21, 22, 23, 24],
         _ => &[],
     }
 }
 
 /// The fields whose faults a check or an apply can find.
-fn fields(op: Op) -> &'static [Field] {
+fn fields(op: Op, version: Version) -> &'static [Field] {
     match op {
-        Op::CheckData | Op::ApplyData => &record::FIELDS,
+        Op::CheckData | Op::ApplyData => version.fields(),
         Op::CheckGuide | Op::ApplyGuide => &row::FIELDS,
         _ => &[],
     }
@@ -129,7 +206,7 @@ fn fields(op: Op) -> &'static [Field] {
 impl Coverage {
     /// Counts a damaged byte, from 0.
     pub fn note_damage(&mut self, part: Part, byte: usize) {
-        self.damaged[part as usize][byte] += 1;
+        self.damaged[part.index()][byte] += 1;
     }
 
     /// Counts what became of a file that was checked in the evening.
@@ -137,31 +214,49 @@ impl Coverage {
         self.mornings[morning as usize] += 1;
     }
 
+    /// Counts a run that has ended, if files of both versions had a part in it.
+    pub fn note_run(&mut self, is_mixed: bool) {
+        self.mixed += u64::from(is_mixed);
+    }
+
+    /// Each call of files and stores: its name, what it is, and its counts.
+    fn kinds(&self) -> impl Iterator<Item = (String, (Op, Version), &Counts)> {
+        let named = |(op, version): (Op, Version)| format!("{}{}", of(version), op.name());
+        let kinds = KINDS.into_iter().zip(&self.counts);
+        kinds.map(move |(kind, counts)| (named(kind), kind, counts))
+    }
+
     /// The occasions with their counts: those of one call, and those of several.
     fn occasions(&self) -> impl Iterator<Item = (&'static str, u64)> + '_ {
         let names = OCCASIONS.iter().map(|(name, _)| *name);
-        let mornings = Morning::BOTH.map(Morning::name).into_iter();
-        names.zip(self.occasions).chain(mornings.zip(self.mornings))
+        let mornings = Morning::ALL.map(Morning::name).into_iter();
+        let runs = [("a run with records done of both versions", self.mixed)];
+        names
+            .zip(self.occasions)
+            .chain(mornings.zip(self.mornings))
+            .chain(runs)
     }
 }
 
 impl Notes for Coverage {
     fn note(&mut self, call: &Call, outcome: &Outcome) {
-        let op = call.op as usize;
+        let kind = (call.op, call.version);
+        let place = KINDS.iter().position(|one| *one == kind);
+        let counts = &mut self.counts[place.expect("a call of files and stores")];
         let refusal = outcome.refusal() as usize;
-        self.refusals[op][refusal] += 1;
+        counts.refusals[refusal] += 1;
         for (count, (_, came_up)) in self.occasions.iter_mut().zip(OCCASIONS) {
             *count += u64::from(came_up(call, outcome));
         }
         if refusal == 9 {
-            self.faults[op][outcome.returned[2] as usize] += 1;
+            counts.faults[outcome.returned[2] as usize] += 1;
         }
-        if answers(call.op).is_empty() {
+        if answers(call.op, call.version).is_empty() {
             return;
         }
         let applied = outcome.returned[3] as usize;
         for &answer in &outcome.lent[3][..applied] {
-            self.answers[op][usize::from(answer)] += 1;
+            counts.answers[usize::from(answer)] += 1;
         }
     }
 
@@ -171,26 +266,26 @@ impl Notes for Coverage {
             let one = |&number: &usize| format!(" {number}:{}", counts[number]);
             numbers.iter().map(one).collect()
         };
-        for op in Op::OF_FILES {
-            let (name, at) = (op.name(), op as usize);
-            let refusals = list(refusals(op), &self.refusals[at]);
+        for (name, (op, version), counts) in self.kinds() {
+            let refusals = list(refusals(op, version), &counts.refusals);
             lines.push(format!("{name} refusals{refusals}"));
-            if !answers(op).is_empty() {
-                let answers = list(answers(op), &self.answers[at]);
+            if !answers(op, version).is_empty() {
+                let answers = list(answers(op, version), &counts.answers);
                 lines.push(format!("{name} answers{answers}"));
             }
-            if !fields(op).is_empty() {
-                let firsts: Vec<usize> = fields(op).iter().map(|field| field.first).collect();
-                let faults = list(&firsts, &self.faults[at]);
+            let fields = fields(op, version);
+            if !fields.is_empty() {
+                let firsts: Vec<usize> = fields.iter().map(|field| field.first).collect();
+                let faults = list(&firsts, &counts.faults);
                 lines.push(format!("{name} fault positions{faults}"));
             }
         }
-        for (part, length) in Part::ALL {
-            let hit = &self.damaged[part as usize][..length];
+        for (part, hit) in Part::ALL.into_iter().zip(&self.damaged) {
+            let (name, length) = (part.name(), part.length());
             let bytes = hit.iter().filter(|&&count| count > 0).count();
-            let least = hit.iter().min().unwrap_or(&0);
+            let least = hit[..length].iter().min().unwrap_or(&0);
             lines.push(format!(
-                "{part:?} bytes damaged {bytes} of {length}, least often {least}"
+                "{name} bytes damaged {bytes} of {length}, least often {least}"
             ));
         }
         let occasions = self.occasions();
@@ -205,30 +300,21 @@ impl Notes for Coverage {
                 missing.push(what);
             }
         };
-        for op in Op::OF_FILES {
-            let (name, at) = (op.name(), op as usize);
-            for &number in refusals(op) {
-                want(
-                    self.refusals[at][number],
-                    format!("{name} refusal {number}"),
-                );
+        for (name, (op, version), counts) in self.kinds() {
+            for &number in refusals(op, version) {
+                want(counts.refusals[number], format!("{name} refusal {number}"));
             }
-            for &number in answers(op) {
-                want(self.answers[at][number], format!("{name} answer {number}"));
+            for &number in answers(op, version) {
+                want(counts.answers[number], format!("{name} answer {number}"));
             }
-            for field in fields(op) {
-                want(
-                    self.faults[at][field.first],
-                    format!("{name} fault at {}", field.first),
-                );
+            for field in fields(op, version) {
+                let first = field.first;
+                want(counts.faults[first], format!("{name} fault at {first}"));
             }
         }
-        for (part, length) in Part::ALL {
-            for byte in 0..length {
-                want(
-                    self.damaged[part as usize][byte],
-                    format!("{part:?} byte {byte}"),
-                );
+        for (part, hit) in Part::ALL.into_iter().zip(&self.damaged) {
+            for (byte, &count) in hit[..part.length()].iter().enumerate() {
+                want(count, format!("{} byte {byte}", part.name()));
             }
         }
         for (name, count) in self.occasions() {

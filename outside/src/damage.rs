@@ -4,9 +4,9 @@ use crate::call::{Call, Op};
 use crate::coverage::{Coverage, Part};
 use crate::gen::{next_cycle, put};
 use crate::model::layout::{
-    header, record, row, trailer, Field, Form, EDGE, GUIDE_SLOT, RECORD, REGISTER_SLOT, ROW,
-    SLOT_HEAD,
+    header, record, row, trailer, Field, Form, GUIDE_SLOT, REGISTER_SLOT, ROW, SLOT_HEAD,
 };
+use crate::model::Version;
 use crate::random::Random;
 
 /// Bytes next to the ends of what the rules allow.
@@ -100,34 +100,34 @@ fn change(
 }
 
 /// The size, fields and part of a file's records.
-fn kind(op: Op) -> (usize, &'static [Field], Part) {
-    if op.has_records() {
-        (RECORD, &record::FIELDS, Part::Record)
+fn kind(call: &Call) -> (usize, &'static [Field], Part) {
+    let version = call.version;
+    if call.op.has_records() {
+        (version.record(), version.fields(), Part::Record(version))
     } else {
         (ROW, &row::FIELDS, Part::Row)
     }
 }
 
-/// Damages the file of an apply at one place: header, trailer or a record.
-fn damage_file(random: &mut Random, coverage: &mut Coverage, op: Op, file: &mut Vec<u8>) {
-    let (size, fields, part) = kind(op);
-    let count = (file.len() - 2 * EDGE) / size;
-    let tail = file.len() - EDGE;
+/// Damages the file of an apply at one place: header, trailer or a record, where
+/// the version that is said has them.
+fn damage_file(random: &mut Random, coverage: &mut Coverage, call: &mut Call) {
+    let (size, fields, part) = kind(call);
+    let (version, edge) = (call.version, call.version.edge());
+    let file = &mut call.lent[2];
+    let Some(between) = file.len().checked_sub(version.file(0)) else {
+        return;
+    };
+    let (count, tail) = (between / size, file.len() - edge);
     match random.below(10) {
-        0 | 1 => change(
-            random,
-            coverage,
-            Part::Header,
-            &header::FIELDS,
-            &mut file[..EDGE],
-        ),
-        2 | 3 => change(
-            random,
-            coverage,
-            Part::Trailer,
-            &trailer::FIELDS,
-            &mut file[tail..],
-        ),
+        0 | 1 => {
+            let part = Part::Header(version);
+            change(random, coverage, part, version.header(), &mut file[..edge]);
+        }
+        2 | 3 => {
+            let part = Part::Trailer(version);
+            change(random, coverage, part, version.trailer(), &mut file[tail..]);
+        }
         4 if random.chance(50) => cut(random, size, file),
         4 => {
             let other = random.pick(&[count + 1, count.saturating_sub(1), 999_999_999]);
@@ -135,7 +135,7 @@ fn damage_file(random: &mut Random, coverage: &mut Coverage, op: Op, file: &mut 
             put(&mut file[tail..], trailer::COUNT, text.as_bytes());
         }
         _ if count > 0 => {
-            let at = EDGE + size * random.below(count);
+            let at = edge + size * random.below(count);
             change(random, coverage, part, fields, &mut file[at..at + size]);
         }
         _ => {}
@@ -160,7 +160,7 @@ fn cut(random: &mut Random, size: usize, bytes: &mut Vec<u8>) {
 fn damage_store(random: &mut Random, coverage: &mut Coverage, op: Op, store: &mut Vec<u8>) {
     let (slot, fields, part): (usize, &[Field], Part) = match op {
         Op::ApplyGuide => (GUIDE_SLOT, &row::FIELDS, Part::Row),
-        _ => (REGISTER_SLOT, &record::FIELDS, Part::Record),
+        _ => (REGISTER_SLOT, &record::FIELDS, Part::Record(Version::Two)),
     };
     if random.chance(8) {
         return cut(random, slot, store);
@@ -212,20 +212,7 @@ pub fn damage(random: &mut Random, coverage: &mut Coverage, call: &mut Call) -> 
             false
         }
         Op::WriteLoad => {
-            match random.below(6) {
-                0 => call.given = random.pick(&LASTS),
-                1 => {
-                    let text = random.pick(texts(Form::Date));
-                    call.lent[1] = text.to_vec();
-                }
-                2 => {
-                    let byte = random.pick(&[0, 0, 1, 49]);
-                    call.lent[2][byte] = random.pick(BYTES);
-                }
-                3 => call.lent[2] = vec![b' '; random.pick(&[49, 50, 51])],
-                4 => cut(random, RECORD, &mut call.lent[3]),
-                _ => damage_store(random, coverage, Op::ApplyData, &mut call.lent[0]),
-            }
+            damage_load(random, coverage, call);
             false
         }
         Op::ConvertRegister => {
@@ -234,6 +221,23 @@ pub fn damage(random: &mut Random, coverage: &mut Coverage, call: &mut Call) -> 
         }
         Op::CheckData | Op::CheckGuide => unreachable!("a check is of an apply's bytes"),
         Op::ReadTagged | Op::WriteTagged => unreachable!("texts are damaged elsewhere"),
+    }
+}
+
+fn damage_load(random: &mut Random, coverage: &mut Coverage, call: &mut Call) {
+    match random.below(6) {
+        0 => call.given = random.pick(&LASTS),
+        1 => {
+            let text = random.pick(texts(Form::Date));
+            call.lent[1] = text.to_vec();
+        }
+        2 => {
+            let byte = random.pick(&[0, 0, 1, 49]);
+            call.lent[2][byte] = random.pick(BYTES);
+        }
+        3 => call.lent[2] = vec![b' '; random.pick(&[49, 50, 51])],
+        4 => cut(random, call.version.record(), &mut call.lent[3]),
+        _ => damage_store(random, coverage, Op::ApplyData, &mut call.lent[0]),
     }
 }
 
@@ -252,11 +256,8 @@ fn damage_apply(random: &mut Random, coverage: &mut Coverage, call: &mut Call) -
             if random.chance(60) {
                 // Often with the cycle that follows, or seems to.
                 let cycle = random.pick(&[next_cycle(call.given), 1, 999_999]) % 1_000_000;
-                put(
-                    &mut call.lent[2],
-                    header::CYCLE,
-                    cycle.to_string().as_bytes(),
-                );
+                let text = cycle.to_string();
+                put(&mut call.lent[2], header::CYCLE, text.as_bytes());
             }
             return false;
         }
@@ -266,11 +267,13 @@ fn damage_apply(random: &mut Random, coverage: &mut Coverage, call: &mut Call) -
                 .saturating_sub(random.pick(&[1, 1, 2, 9]));
             call.lent[3].truncate(shorter);
         }
+        // The caller says the other version: nothing tells it from the bytes.
+        8 if call.op.has_records() => call.version = call.version.other(),
         _ => {
-            damage_file(random, coverage, call.op, &mut call.lent[2]);
+            damage_file(random, coverage, call);
             // Two faults show the order of the tests.
-            if random.chance(25) && call.lent[2].len() >= 2 * EDGE {
-                damage_file(random, coverage, call.op, &mut call.lent[2]);
+            if random.chance(25) {
+                damage_file(random, coverage, call);
             }
         }
     }

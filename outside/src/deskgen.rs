@@ -4,6 +4,7 @@ use crate::coverage::Coverage;
 use crate::damage::damage;
 use crate::gen::World;
 use crate::model::desk::{put_hex, Desk, COLLECTION, LINES, LONGEST_LINE, SLOTS};
+use crate::model::Version;
 use crate::random::Random;
 
 /// Bytes that the longest line has after its code.
@@ -87,7 +88,12 @@ impl Input {
     fn file(&mut self, code: u8) {
         let mut call = match code {
             0x02 => self.world.apply_guide(),
-            _ => self.world.apply_data(),
+            _ => {
+                // The desk takes every file as one of Version 2.
+                let foreign = self.random.chance(3);
+                let version = if foreign { Version::One } else { Version::Two };
+                self.world.apply_data_of(version)
+            }
         };
         if self.random.chance(30) {
             // What is not the file cannot be damaged from here.
@@ -113,7 +119,7 @@ impl Input {
     /// A file that just fills the collection, and a byte or more on top.
     fn overflow(&mut self) {
         let records = (COLLECTION - 400) / 512;
-        let file = self.world.data_file(records);
+        let file = self.world.data_file(Version::Two, records);
         self.chunks(&file);
         let more = vec![b' '; self.random.pick(&[0, 1, 2, MOST_BYTES])];
         self.frame(0x01, &more);

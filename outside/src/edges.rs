@@ -3,10 +3,9 @@
 use crate::call::{Call, Op, Outcome};
 use crate::damage::LASTS;
 use crate::explore::{Explorer, Finding};
-use crate::gen::{file, next_cycle, World, EDGE_DATES};
-use crate::model::convert_register;
-use crate::model::layout::{GUIDE_SLOT, MOST_SLOTS, RECORD, REGISTER_SLOT};
-use crate::model::Described;
+use crate::gen::{file_of, next_cycle, World, EDGE_DATES};
+use crate::model::layout::{GUIDE_SLOT, MOST_SLOTS, REGISTER_SLOT};
+use crate::model::{convert_register, Described, Version};
 use crate::subject::Subject;
 
 /// Sizes of stores.
@@ -15,6 +14,12 @@ const SLOTS: [usize; 4] = [1, 2, 64, MOST_SLOTS];
 const RECORDS: [usize; 5] = [0, 1, 127, 9999, 10_000];
 /// No entry is later.
 const LAST_DATE: &[u8; 6] = b"123169";
+/// The applies, of either version.
+const APPLIES: [(Op, Version); 3] = [
+    (Op::ApplyGuide, Version::Two),
+    (Op::ApplyData, Version::One),
+    (Op::ApplyData, Version::Two),
+];
 
 impl<A: Subject, B: Subject> Explorer<'_, A, B> {
     /// Every edge once.
@@ -25,24 +30,27 @@ impl<A: Subject, B: Subject> Explorer<'_, A, B> {
             self.last_cycles(&mut world)?;
             self.store_lengths(&world)?;
             self.lookups(&world)?;
-            self.load_files(&mut world)?;
+            for version in Version::BOTH {
+                self.load_files(version, &mut world)?;
+            }
             self.conversions(&mut world)?;
         }
+        self.versions(seed)?;
         self.centuries()
     }
 
     /// Guide and data files of every size, with answers buffers that just hold
     /// the answers, are a byte short, or have bytes to spare.
     fn file_sizes(&mut self, world: &mut World) -> Result<(), Finding> {
-        for op in [Op::ApplyGuide, Op::ApplyData] {
+        for (op, version) in APPLIES {
             for count in RECORDS {
                 let file = match op {
                     Op::ApplyGuide => world.guide_file(count),
-                    _ => world.data_file(count),
+                    _ => world.data_file(version, count),
                 };
-                let short = world.apply(op, file.clone(), count.saturating_sub(1));
+                let short = world.apply(op, version, file.clone(), count.saturating_sub(1));
                 self.compare(&short, count)?;
-                let call = world.apply(op, file, count + count % 2);
+                let call = world.apply(op, version, file, count + count % 2);
                 let outcome = self.compare(&call, count + 1)?;
                 world.adopt(op, &outcome.returned, &outcome.lent);
             }
@@ -52,11 +60,11 @@ impl<A: Subject, B: Subject> Explorer<'_, A, B> {
 
     /// Every last cycle with the cycle after it, 1 and 999999, n = 0.
     fn last_cycles(&mut self, world: &mut World) -> Result<(), Finding> {
-        for op in [Op::ApplyGuide, Op::ApplyData] {
+        for (op, version) in APPLIES {
             for last in LASTS {
                 for cycle in [next_cycle(last), 1, 999_999] {
-                    let empty = file(b"010100", cycle % 1_000_000, b"", 0);
-                    let mut call = world.apply(op, empty, 0);
+                    let empty = file_of(version, b"010100", cycle % 1_000_000, b"", 0);
+                    let mut call = world.apply(op, version, empty, 0);
                     call.given = last;
                     self.compare(&call, 7)?;
                 }
@@ -67,13 +75,13 @@ impl<A: Subject, B: Subject> Explorer<'_, A, B> {
 
     /// Stores that are a byte or a slot off, and the largest and one too large.
     fn store_lengths(&mut self, world: &World) -> Result<(), Finding> {
-        for op in [Op::ApplyGuide, Op::ApplyData] {
+        for (op, version) in APPLIES {
             for (store, slot) in [(0, REGISTER_SLOT), (1, GUIDE_SLOT)] {
                 let now = world.guide.len() / GUIDE_SLOT * slot;
                 let most = MOST_SLOTS * slot;
                 for length in [0, 1, now - 1, now + 1, most, most + slot] {
-                    let empty = file(LAST_DATE, 1, b"", 0);
-                    let mut call = world.apply(op, empty, 0);
+                    let empty = file_of(version, LAST_DATE, 1, b"", 0);
+                    let mut call = world.apply(op, version, empty, 0);
                     call.given = 0;
                     call.lent[store].resize(length, 0);
                     self.compare(&call, length)?;
@@ -107,6 +115,7 @@ impl<A: Subject, B: Subject> Explorer<'_, A, B> {
                 register.truncate(register.len() - off);
                 let call = Call {
                     op: Op::Lookup,
+                    version: Version::Two,
                     given: 0,
                     lent: vec![register, number.clone()],
                 };
@@ -118,18 +127,20 @@ impl<A: Subject, B: Subject> Explorer<'_, A, B> {
 
     /// Load files with room to the byte, and every cycle at which something
     /// changes.
-    fn load_files(&mut self, world: &mut World) -> Result<(), Finding> {
-        let mut call = world.write_load();
+    fn load_files(&mut self, version: Version, world: &mut World) -> Result<(), Finding> {
+        let mut call = world.write_load_of(version);
         call.lent[1] = LAST_DATE.to_vec();
         call.given = 1;
         let slots = world.register.len() / REGISTER_SLOT;
-        call.lent[3].resize(400 + slots * RECORD, 0x55);
+        call.lent[3].resize(version.file(slots), 0x55);
         let full: Outcome = self.compare(&call, 3)?;
-        for room in [full.returned[1] as usize, full.returned[1] as usize - 1, 0] {
+        // What is refused by 27 has no bytes, and no room is enough for it.
+        let bytes = full.returned[1] as usize;
+        for room in [bytes, bytes.saturating_sub(1), 0] {
             call.lent[3].resize(room, 0x55);
             self.compare(&call, room)?;
         }
-        call.lent[3].resize(full.returned[1] as usize, 0x55);
+        call.lent[3].resize(bytes, 0x55);
         for cycle in LASTS {
             call.given = cycle;
             self.compare(&call, 11)?;

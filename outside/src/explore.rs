@@ -182,7 +182,7 @@ impl<A: Subject, B: Subject> Runs for Explorer<'_, A, B> {
                 let is_behind = |file: &mut Call| file.op == call.op && outcome.refusal() == 0;
                 let late = waiting.take_if(is_behind);
                 late.map_or(Ok(()), |file| {
-                    self.morning(&file, &world, Morning::Overtaken)
+                    self.morning(&file, &world, Morning::behind(&file, &call))
                 })?;
             }
             // Large stores are held to the demands when the run ends.
@@ -191,6 +191,7 @@ impl<A: Subject, B: Subject> Runs for Explorer<'_, A, B> {
             }
             kept.map_err(|what| not_kept(&what, seed, &call, &outcome))?;
         }
+        self.coverage.note_run(history.is_of_both_versions());
         waiting.map_or(Ok(()), |file| self.morning(&file, &world, Morning::Kept))
     }
 
@@ -268,7 +269,8 @@ impl<A: Subject, B: Subject> Explorer<'_, A, B> {
     /// The file that waits is applied in the morning: refused by 6 behind another of
     /// its kind, whose cycle was the same, with nothing changed, and else not refused.
     fn morning(&mut self, file: &Call, world: &World, due: Morning) -> Result<(), Finding> {
-        let call = world.apply(file.op, file.lent[2].clone(), file.lent[3].len());
+        let (lent, answers) = (file.lent[2].clone(), file.lent[3].len());
+        let call = world.apply(file.op, file.version, lent, answers);
         let outcome = self.compare(&call, 9)?;
         let changes = outcome.lent != call.lent;
         if outcome.refusal() != due.refusal() || due.refusal() != 0 && changes {

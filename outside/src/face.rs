@@ -1,10 +1,22 @@
 //! A safe face of the compiled static libraries. The only file with `unsafe`.
 
-use crate::model::{Converted, Found, Loaded, Tagged, Taken};
+use crate::model::{Converted, Found, Loaded, Tagged, Taken, Version};
 use crate::subject::Subject;
 
 extern "C" {
     fn hakkiyolu_check_data(
+        register: *const u8,
+        register_length: usize,
+        guide: *const u8,
+        guide_length: usize,
+        file: *const u8,
+        file_length: usize,
+        answers: *const u8,
+        answers_length: usize,
+        last: u32,
+    ) -> Taken;
+
+    fn hakkiyolu_check_data_v1(
         register: *const u8,
         register_length: usize,
         guide: *const u8,
@@ -40,6 +52,18 @@ extern "C" {
         last: u32,
     ) -> Taken;
 
+    fn hakkiyolu_apply_data_v1(
+        register: *mut u8,
+        register_length: usize,
+        guide: *const u8,
+        guide_length: usize,
+        file: *const u8,
+        file_length: usize,
+        answers: *mut u8,
+        answers_length: usize,
+        last: u32,
+    ) -> Taken;
+
     fn hakkiyolu_apply_guide(
         register: *const u8,
         register_length: usize,
@@ -53,6 +77,18 @@ extern "C" {
     ) -> Taken;
 
     fn hakkiyolu_write_load(
+        register: *const u8,
+        register_length: usize,
+        date: *const u8,
+        date_length: usize,
+        name: *const u8,
+        name_length: usize,
+        cycle: u32,
+        out: *mut u8,
+        out_length: usize,
+    ) -> Loaded;
+
+    fn hakkiyolu_write_load_v1(
         register: *const u8,
         register_length: usize,
         date: *const u8,
@@ -109,7 +145,7 @@ fn start_mut(bytes: &mut [u8]) -> *mut u8 {
     }
 }
 
-/// One of the two checks.
+/// One of the three checks.
 type Check = unsafe extern "C" fn(
     *const u8,
     usize,
@@ -147,13 +183,18 @@ fn checked(check: Check, [register, guide, file, answers]: [&[u8]; 4], last: u32
 impl Subject for Library {
     fn check_data(
         &self,
+        version: Version,
         register: &[u8],
         guide: &[u8],
         file: &[u8],
         answers: &[u8],
         last: u32,
     ) -> Taken {
-        checked(hakkiyolu_check_data, [register, guide, file, answers], last)
+        let check = match version {
+            Version::One => hakkiyolu_check_data_v1,
+            Version::Two => hakkiyolu_check_data,
+        };
+        checked(check, [register, guide, file, answers], last)
     }
 
     fn check_guide(
@@ -173,14 +214,19 @@ impl Subject for Library {
 
     fn apply_data(
         &self,
+        version: Version,
         register: &mut [u8],
         guide: &[u8],
         file: &[u8],
         answers: &mut [u8],
         last: u32,
     ) -> Taken {
+        let apply = match version {
+            Version::One => hakkiyolu_apply_data_v1,
+            Version::Two => hakkiyolu_apply_data,
+        };
         unsafe {
-            hakkiyolu_apply_data(
+            apply(
                 start_mut(register),
                 register.len(),
                 start(guide),
@@ -226,14 +272,19 @@ impl Subject for Library {
 
     fn write_load(
         &self,
+        version: Version,
         register: &[u8],
         date: &[u8],
         name: &[u8],
         cycle: u32,
         out: &mut [u8],
     ) -> Loaded {
+        let write = match version {
+            Version::One => hakkiyolu_write_load_v1,
+            Version::Two => hakkiyolu_write_load,
+        };
         unsafe {
-            hakkiyolu_write_load(
+            write(
                 start(register),
                 register.len(),
                 start(date),
@@ -274,6 +325,11 @@ pub fn unpack(packed: u64) -> Found {
 #[cfg(test)]
 mod tests {
     use super::*;
+
+    #[test]
+    fn the_returned_structs_have_their_length() {
+        assert_eq!((size_of::<Taken>(), size_of::<Loaded>()), (28, 16));
+    }
 
     #[test]
     fn the_packed_number_comes_apart() {

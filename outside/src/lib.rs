@@ -5,6 +5,7 @@ pub mod arguments;
 pub mod call;
 pub mod centuries;
 pub mod coverage;
+mod crossing;
 pub mod damage;
 pub mod dates;
 pub mod demands;

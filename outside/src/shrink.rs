@@ -3,7 +3,7 @@
 use crate::call::{Call, Op};
 use crate::gen::put;
 use crate::model::form::blank;
-use crate::model::layout::{record, trailer, Field, EDGE, GUIDE_SLOT, RECORD, REGISTER_SLOT, ROW};
+use crate::model::layout::{record, trailer, Field, GUIDE_SLOT, RECORD, REGISTER_SLOT, ROW};
 
 /// A lent buffer's edges, and the parts between them that can be left out.
 struct Shape {
@@ -11,12 +11,13 @@ struct Shape {
     part: usize,
 }
 
-fn shape(op: Op, name: &str) -> Option<Shape> {
-    let (edge, part) = match (name, op) {
-        ("register", _) => (0, REGISTER_SLOT),
-        ("guide", _) => (0, GUIDE_SLOT),
-        ("file", op) if op.has_records() => (EDGE, RECORD),
-        ("file", _) => (EDGE, ROW),
+fn shape(call: &Call, name: &str) -> Option<Shape> {
+    let version = call.version;
+    let (edge, part) = match name {
+        "register" => (0, REGISTER_SLOT),
+        "guide" => (0, GUIDE_SLOT),
+        "file" if call.op.has_records() => (version.edge(), version.record()),
+        "file" => (version.edge(), ROW),
         _ => return None,
     };
     Some(Shape { edge, part })
@@ -39,7 +40,7 @@ impl Shape {
         smaller.drain(from..from + parts * self.part);
         if self.edge > 0 {
             let counted = format!("{all:>9}");
-            let at = smaller.len() - EDGE;
+            let at = smaller.len() - self.edge;
             let tail = &mut smaller[at..];
             if trailer::COUNT.of(tail) == counted.as_bytes() {
                 let count = format!("{:>9}", all - parts);
@@ -88,7 +89,7 @@ fn shrink_stores(best: &mut Call, differs: &impl Fn(&Call) -> bool) {
     // The file first: its records decide which slots and rows are needed.
     for name in ["file", "register", "guide", "file"] {
         let place = best.op.lent().iter().position(|lent| *lent == name);
-        if let (Some(place), Some(shape)) = (place, shape(best.op, name)) {
+        if let (Some(place), Some(shape)) = (place, shape(best, name)) {
             let parts = shape.parts(&best.lent[place]);
             let without = |bytes: &[u8], start, parts| shape.without(bytes, start, parts);
             spare(best, place, parts, without, differs);

@@ -1,13 +1,14 @@
 //! What is compared: the model under some rules, or the compiled library.
 
-use crate::model::{self, Converted, Found, Loaded, Rules, Tagged, Taken};
+use crate::model::{self, Converted, Found, Loaded, Rules, Tagged, Taken, Version};
 use std::marker::PhantomData;
 
-/// The nine functions.
+/// The functions; a version of data files is said, as the libraries have a call each.
 pub trait Subject {
     /// Checks a data file.
     fn check_data(
         &self,
+        version: Version,
         register: &[u8],
         guide: &[u8],
         file: &[u8],
@@ -28,6 +29,7 @@ pub trait Subject {
     /// Applies a data file.
     fn apply_data(
         &self,
+        version: Version,
         register: &mut [u8],
         guide: &[u8],
         file: &[u8],
@@ -51,6 +53,7 @@ pub trait Subject {
     /// Writes a load file.
     fn write_load(
         &self,
+        version: Version,
         register: &[u8],
         date: &[u8],
         name: &[u8],
@@ -87,13 +90,14 @@ impl<R> Default for Model<R> {
 impl<R: Rules> Subject for Model<R> {
     fn check_data(
         &self,
+        version: Version,
         register: &[u8],
         guide: &[u8],
         file: &[u8],
         answers: &[u8],
         last: u32,
     ) -> Taken {
-        model::check_data::<R>(register, guide, file, answers, last)
+        model::check_data::<R>(version, register, guide, file, answers, last)
     }
 
     fn check_guide(
@@ -109,13 +113,14 @@ impl<R: Rules> Subject for Model<R> {
 
     fn apply_data(
         &self,
+        version: Version,
         register: &mut [u8],
         guide: &[u8],
         file: &[u8],
         answers: &mut [u8],
         last: u32,
     ) -> Taken {
-        model::apply_data::<R>(register, guide, file, answers, last)
+        model::apply_data::<R>(version, register, guide, file, answers, last)
     }
 
     fn apply_guide(
@@ -135,13 +140,14 @@ impl<R: Rules> Subject for Model<R> {
 
     fn write_load(
         &self,
+        version: Version,
         register: &[u8],
         date: &[u8],
         name: &[u8],
         cycle: u32,
         out: &mut [u8],
     ) -> Loaded {
-        model::write_load::<R>(register, date, name, cycle, out)
+        model::write_load::<R>(version, register, date, name, cycle, out)
     }
 
     fn convert_register(&self, register: &mut [u8]) -> Converted {

@@ -1,8 +1,8 @@
 //! Full stores and files of a size, the same every time, for the benchmark.
 
-use crate::gen::{file, put};
+use crate::gen::{file, file_of, put, records_of};
 use crate::model::layout::{record, row, Field, GUIDE_SLOT, RECORD, REGISTER_SLOT, ROW, SLOT_HEAD};
-use crate::model::{apply_data, apply_guide, Described, Former, Rules};
+use crate::model::{apply_data, apply_guide, Described, Former, Rules, Version};
 
 /// Rows of one street.
 const ROWS_A_STREET: usize = 64;
@@ -144,22 +144,25 @@ fn filled<R: Rules>(slots: usize, guide: &[u8]) -> Vec<u8> {
     let all = file(b"010124", 1, &all.collect::<Vec<u8>>(), slots);
     let mut register = vec![0; slots * REGISTER_SLOT];
     let mut answers = vec![0; slots];
-    let taken = apply_data::<R>(&mut register, guide, &all, &mut answers, 0);
+    let taken = apply_data::<R>(Version::Two, &mut register, guide, &all, &mut answers, 0);
     assert_eq!(taken.done as usize, slots);
     assert!(register[(slots - 1) * REGISTER_SLOT + SLOT_HEAD] == b'I');
     register
 }
 
-/// Changes, unlocks, migrates, deletes and inserts over a full register; some
-/// are not done.
-pub fn mixed_file(records: usize, slots: usize, rows: usize) -> Vec<u8> {
-    const CODES: &[u8; 10] = b"CCCUMDICCC";
+/// Changes, unlocks, migrates, deletes and inserts over a full register, in
+/// Version 1 no unlocks and migrates; some are not done.
+pub fn mixed_file(version: Version, records: usize, slots: usize, rows: usize) -> Vec<u8> {
+    let codes = match version {
+        Version::One => b"CCCDIDICCC",
+        Version::Two => b"CCCUMDICCC",
+    };
     let one = |place: usize| {
         // Three records in turn meet the same number.
         let index = place / 3 * STRIDE % slots;
         let company: &[u8] = if place % 10 == 9 { b"XYZ" } else { b"ABC" };
-        record_at(CODES[place % 10], index, rows, company, b"010224")
+        record_at(codes[place % 10], index, rows, company, b"010224")
     };
-    let all: Vec<u8> = (0..records).flat_map(one).collect();
-    file(b"010224", 1, &all, records)
+    let all: Vec<[u8; RECORD]> = (0..records).map(one).collect();
+    file_of(version, b"010224", 1, &records_of(version, &all), records)
 }

@@ -6,7 +6,7 @@ use outside::dates::{day_read, days_stored};
 use outside::face::Library;
 use outside::model::date::{day, Day};
 use outside::model::layout::{record, MOST_SLOTS, RECORD};
-use outside::model::Described;
+use outside::model::{Described, Version};
 use outside::subject::{Model, Subject};
 use std::collections::HashMap;
 
@@ -89,14 +89,16 @@ fn the_model_reads_every_date_as_the_calendar_does() {
 #[test]
 fn the_library_stores_every_date_as_the_calendar_does() {
     let dates = walk();
-    let stored: Vec<Day> = dates
-        .chunks(MOST_SLOTS)
-        .flat_map(|dates| days_stored(&Library, dates))
-        .collect();
-    assert_eq!(stored.len(), DAYS);
-    let wrong = stored.iter().zip(0..).position(|(day, at)| day.0 != at);
-    let wrong = wrong.map(|at| (String::from_utf8_lossy(&dates[at]), stored[at]));
-    assert_eq!(wrong, None);
+    for version in Version::BOTH {
+        let stored: Vec<Day> = dates
+            .chunks(MOST_SLOTS)
+            .flat_map(|dates| days_stored(&Library, version, dates))
+            .collect();
+        assert_eq!(stored.len(), DAYS);
+        let wrong = stored.iter().zip(0..).position(|(day, at)| day.0 != at);
+        let wrong = wrong.map(|at| (String::from_utf8_lossy(&dates[at]), stored[at]));
+        assert_eq!(wrong, None, "{version:?}");
+    }
 }
 
 #[test]

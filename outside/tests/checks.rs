@@ -5,7 +5,7 @@ use outside::call::{Call, Op, Outcome};
 use outside::face::Library;
 use outside::gen::{file, put};
 use outside::model::layout::{header, trailer, EDGE, GUIDE_SLOT, RECORD, REGISTER_SLOT};
-use outside::model::Described;
+use outside::model::{Described, Version};
 use outside::subject::{Model, Subject};
 use outside::town;
 
@@ -35,6 +35,7 @@ fn data(file: Vec<u8>, answers: usize, last: u32) -> Call {
     let answers = vec![UNWRITTEN; answers];
     Call {
         op: Op::ApplyData,
+        version: Version::Two,
         given: last,
         lent: vec![register, town::guide(1), file, answers],
     }

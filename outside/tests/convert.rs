@@ -100,6 +100,7 @@ fn is_of_shared_years(call: &Call) -> bool {
         |date: &[u8]| day::<Former<Described>>(date).is_none_or(|number| number <= LAST_FORMER_DAY);
     match (call.op, &call.lent[..]) {
         (Op::ApplyData, [_, _, file, _]) if file.len() > EDGE => {
+            // Old worlds file Version 2.
             let mut records = file[EDGE..].chunks_exact(RECORD);
             shared(header::DATE.of(file)) && records.all(|whole| shared(record::DATE.of(whole)))
         }

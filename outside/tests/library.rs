@@ -8,8 +8,8 @@ use outside::subject::Model;
 
 const MODEL: Model<Described> = Model::new();
 
-fn does_as_the_model(mut runs: impl Runs) {
-    if let Err(finding) = runs.explore(7, |cases| cases >= 40_000) {
+fn does_as_the_model(mut runs: impl Runs, most: u64) {
+    if let Err(finding) = runs.explore(7, |cases| cases >= most) {
         panic!("{}\n{}", finding.what, finding.line);
     }
     assert_eq!(runs.notes().missing(), [""; 0]);
@@ -17,10 +17,10 @@ fn does_as_the_model(mut runs: impl Runs) {
 
 #[test]
 fn the_library_does_as_the_model_with_files() {
-    does_as_the_model(Explorer::of_files(&MODEL, &Library));
+    does_as_the_model(Explorer::of_files(&MODEL, &Library), 100_000);
 }
 
 #[test]
 fn the_library_does_as_the_model_with_texts() {
-    does_as_the_model(Explorer::of_texts(&MODEL, &Library));
+    does_as_the_model(Explorer::of_texts(&MODEL, &Library), 40_000);
 }

@@ -5,8 +5,8 @@ use outside::coverage::Notes;
 use outside::explore::{Explorer, Runs};
 use outside::model::rules::{
     AnswersUnmeasured, ClashWithoutParity, CpdFrom1960, CycleFromCheck, Described, NinetyOneDays,
-    NoCycleWrap, NoLeapYear, NoLeftJustify, PivotOneOff, RestingForgotten, TrimmedFirst,
-    UnfitFirst,
+    NoCycleWrap, NoLeapYear, NoLeftJustify, PivotOneOff, ReservedLast, RestingForgotten, RoomFirst,
+    TrimmedFirst, UnfitFirst, WideSlotUntold,
 };
 use outside::model::Rules;
 use outside::random::Random;
@@ -14,8 +14,8 @@ use outside::subject::Model;
 
 const GOOD: Model<Described> = Model::new();
 
-fn is_quiet_and_brings_everything_up(mut runs: impl Runs) {
-    if let Err(finding) = runs.explore(1, |cases| cases >= 40_000) {
+fn is_quiet_and_brings_everything_up(mut runs: impl Runs, most: u64) {
+    if let Err(finding) = runs.explore(1, |cases| cases >= most) {
         panic!("{}\n{}", finding.what, finding.line);
     }
     assert_eq!(runs.notes().missing(), [""; 0]);
@@ -23,12 +23,12 @@ fn is_quiet_and_brings_everything_up(mut runs: impl Runs) {
 
 #[test]
 fn a_quiet_run_of_files_brings_everything_up() {
-    is_quiet_and_brings_everything_up(Explorer::of_files(&GOOD, &GOOD));
+    is_quiet_and_brings_everything_up(Explorer::of_files(&GOOD, &GOOD), 100_000);
 }
 
 #[test]
 fn a_quiet_run_of_texts_brings_everything_up() {
-    is_quiet_and_brings_everything_up(Explorer::of_texts(&GOOD, &GOOD));
+    is_quiet_and_brings_everything_up(Explorer::of_texts(&GOOD, &GOOD), 40_000);
 }
 
 /// Whether the runs see the fault in time.
@@ -60,6 +60,9 @@ fn every_fault_is_seen() {
     assert!(is_seen_in_files::<RestingForgotten>());
     assert!(is_seen_in_files::<CycleFromCheck>());
     assert!(is_seen_in_files::<AnswersUnmeasured>());
+    assert!(is_seen_in_files::<ReservedLast>());
+    assert!(is_seen_in_files::<RoomFirst>());
+    assert!(is_seen_in_files::<WideSlotUntold>());
     assert!(is_seen_in_texts::<UnfitFirst>());
     assert!(is_seen_in_texts::<TrimmedFirst>());
     assert!(is_seen_in_texts::<CpdFrom1960>());

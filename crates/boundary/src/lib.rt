@@ -1,4 +1,6 @@
-// The C face of checks and applies, the load file, the conversion and the tagged record: nothing but calls.
+// The C face of checks and applies, the load file, the conversion and the tagged record: nothing but calls. A name with _v1 means Version 1
+// of the data record, one without means Version 2.
+ghost use Rattle.versions.specs.declared.Version.the-variants.{One, Two};
 ghost use Rattle.rules.specs.declared.Kind.the-variants.{Data, Guide};
 ghost use Rattle.rules.specs.Takes.{TakesData, TakesGuide};
 ghost use Rattle.rules.specs.Checks.{Checks};
@@ -10,6 +12,7 @@ use rules::Converted;
 use rules::Loaded;
 use rules::Taken;
 use tag_rules::Tagged;
+use versions::Version;
 
 #[no_mangle]
 pub extern "C" fn hakkiyolu_check_data(
@@ -19,9 +22,9 @@ pub extern "C" fn hakkiyolu_check_data(
     answers: &[u8],
     last: u32,
 ) -> Taken
-    ensures { λ r. ⌜ Checks Data (now (register .entry)) (now (guide .entry)) (now (file .entry)) (now (answers .entry)) last r ⌝ }
+    ensures { λ r. ⌜ Checks (Data Two) (now (register .entry)) (now (guide .entry)) (now (file .entry)) (now (answers .entry)) last r ⌝ }
 {
-    taking::take::check_data(register, guide, file, answers, last)
+    taking::take::check_data(Version::Two, register, guide, file, answers, last)
 }
 
 #[no_mangle]
@@ -32,9 +35,49 @@ pub extern "C" fn hakkiyolu_apply_data(
     answers: &mut [u8],
     last: u32,
 ) -> Taken
-    ensures { λ r. ⌜ TakesData (now (register .entry)) (now (guide .entry)) (now (file .entry)) (now (answers .entry)) last r (now (register .exit)) (now (answers .exit)) ⌝ }
+    ensures { λ r. ⌜ TakesData Two (now (register .entry)) (now (guide .entry)) (now (file .entry)) (now (answers .entry)) last r (now (register .exit)) (now (answers .exit)) ⌝ }
 {
-    taking::take::apply_data(&mut register[..], guide, file, &mut answers[..], last)
+    taking::take::apply_data(
+        Version::Two,
+        &mut register[..],
+        guide,
+        file,
+        &mut answers[..],
+        last,
+    )
+}
+
+#[no_mangle]
+pub extern "C" fn hakkiyolu_check_data_v1(
+    register: &[u8],
+    guide: &[u8],
+    file: &[u8],
+    answers: &[u8],
+    last: u32,
+) -> Taken
+    ensures { λ r. ⌜ Checks (Data One) (now (register .entry)) (now (guide .entry)) (now (file .entry)) (now (answers .entry)) last r ⌝ }
+{
+    taking::take::check_data(Version::One, register, guide, file, answers, last)
+}
+
+#[no_mangle]
+pub extern "C" fn hakkiyolu_apply_data_v1(
+    register: &mut [u8],
+    guide: &[u8],
+    file: &[u8],
+    answers: &mut [u8],
+    last: u32,
+) -> Taken
+    ensures { λ r. ⌜ TakesData One (now (register .entry)) (now (guide .entry)) (now (file .entry)) (now (answers .entry)) last r (now (register .exit)) (now (answers .exit)) ⌝ }
+{
+    taking::take::apply_data(
+        Version::One,
+        &mut register[..],
+        guide,
+        file,
+        &mut answers[..],
+        last,
+    )
 }
 
 #[no_mangle]
@@ -71,9 +114,22 @@ pub extern "C" fn hakkiyolu_write_load(
     cycle: u32,
     out: &mut [u8],
 ) -> Loaded
-    ensures { λ r. ⌜ WritesLoad (now (register .entry)) (now (date .entry)) (now (name .entry)) cycle (now (out .entry)) r (now (out .exit)) ⌝ }
+    ensures { λ r. ⌜ WritesLoad Two (now (register .entry)) (now (date .entry)) (now (name .entry)) cycle (now (out .entry)) r (now (out .exit)) ⌝ }
 {
-    loading::write_load(register, date, name, cycle, &mut out[..])
+    loading::write_load(Version::Two, register, date, name, cycle, &mut out[..])
+}
+
+#[no_mangle]
+pub extern "C" fn hakkiyolu_write_load_v1(
+    register: &[u8],
+    date: &[u8],
+    name: &[u8],
+    cycle: u32,
+    out: &mut [u8],
+) -> Loaded
+    ensures { λ r. ⌜ WritesLoad One (now (register .entry)) (now (date .entry)) (now (name .entry)) cycle (now (out .entry)) r (now (out .exit)) ⌝ }
+{
+    loading::write_load(Version::One, register, date, name, cycle, &mut out[..])
 }
 
 #[no_mangle]

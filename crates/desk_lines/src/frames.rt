@@ -7,6 +7,7 @@ ghost use Rattle.desk_rules.specs.Served.{benchOf, mostSaid, Lays};
 use crate::say;
 use desk_rules::Fed;
 use desk_rules::Marks;
+use versions::Version;
 
 // The codes of the frames that the desk reads.
 const COLLECT: u8 = 1;
@@ -80,7 +81,7 @@ fn apply_guide(
     Fed { marks, said }
 }
 
-// 03: the collection is taken as a data file, and emptied.
+// 03: the collection is taken as a data file of Version 2, and emptied.
 fn apply_data(m: Marks, register: &mut [u8], guide: &[u8], collection: &[u8], out: &mut [u8]) -> Fed
     requires { ⌜ (m .collected ≤ length (now collection)) × (mostSaid ≤ length (now out)) ⌝ }
     ensures { λ r. ⌜ ((l : List ℕ) → Lays takingData m
@@ -90,6 +91,7 @@ fn apply_data(m: Marks, register: &mut [u8], guide: &[u8], collection: &[u8], ou
     let mut answers = [0; MOST_ANSWERS];
     let n = m.collected;
     let t = taking::take::apply_data(
+        Version::Two,
         &mut register[..],
         guide,
         &collection[0..n],

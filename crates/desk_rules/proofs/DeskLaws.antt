@@ -15,6 +15,7 @@ use borrow.Author.Tests.{leb-true, leb-false, le-leb, lt-leb, eq-eqb, ne-eqb}
 use Rattle.text.specs.Text.{putAt}
 use Rattle.text.proofs.Laws.{and-left, and-right}
 use Rattle.rules.specs.declared.Taken.{Taken}
+use Rattle.versions.specs.declared.Version.the-variants.{Two}
 use Rattle.rules.specs.Takes.{TakesData, TakesGuide}
 use Rattle.desk_rules.proofs.TakenLaws.{guide-register, data-guide}
 use Rattle.desk_rules.specs.declared.Marks.{Marks}
@@ -146,7 +147,7 @@ module _ (m : Marks) (R G C l out : List ℕ) (ready : isReady m (benchOf R G C 
           ),
         )
 
-    pub data-laid : (g : List ℕ) → TakesData R G (take (m .collected) C) (replicate mostAnswers 0) (m .register) t g a
+    pub data-laid : (g : List ℕ) → TakesData Two R G (take (m .collected) C) (replicate mostAnswers 0) (m .register) t g a
         → Holds (laidOut (takingData (deskOf m (benchOf R G C l out))) (benchOf R G C l out))
         (record { marks = record { lines = m .lines; typed = m .typed; collected = 0; guide = m .guide; register = t .last }; said = n })
         (benchOf g G C l o)

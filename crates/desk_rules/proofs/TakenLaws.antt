@@ -9,6 +9,7 @@ use Rattle.layout.specs.declared.frame.Header.{Header}
 use Rattle.layout.specs.declared.counter.Cycle.{Cycle}
 use Rattle.layout.specs.Counters.{givenCycle}
 use Rattle.rules.specs.declared.Kind.{Kind}
+use Rattle.versions.specs.declared.Version.the-variants.{Two}
 use Rattle.rules.specs.declared.Kind.the-variants.{Data, Guide}
 use Rattle.rules.specs.declared.Checked.{Checked}
 use Rattle.rules.specs.declared.Checked.the-variants.{Good, Refused}
@@ -54,13 +55,13 @@ taken-fits k s f last e l =
 
 abbrev other : Kind → Stores → List ℕ
 other Guide s = s .register
-other Data s = s .guide
+other (Data v) s = s .guide
 
 after-other : (k : Kind) (h : Header) (f : List ℕ) (s : Stores) (i : ℕ) → other k (after k h f s i) ≡ other k s
 unfolding after lineApplied
 after-other k h f s zero = refl
 after-other Guide h f s (suc i) = after-other Guide h f s i
-after-other Data h f s (suc i) = after-other Data h f s i
+after-other (Data v) h f s (suc i) = after-other (Data v) h f s i
 
 taken-other : (k : Kind) (s : Stores) (f answers : List ℕ) (last : ℕ) → other k s ≡ other k (taken k s f answers last .stores)
 taken-other k s f answers last = go (checked k s f (length answers) (givenCycle last)) refl
@@ -72,5 +73,5 @@ taken-other k s f answers last = go (checked k s f (length answers) (givenCycle 
 pub guide-register : (s : Stores) (f answers : List ℕ) (last : ℕ) → s .register ≡ taken Guide s f answers last .stores .register
 guide-register s f answers last = taken-other Guide s f answers last
 
-pub data-guide : (s : Stores) (f answers : List ℕ) (last : ℕ) → s .guide ≡ taken Data s f answers last .stores .guide
-data-guide s f answers last = taken-other Data s f answers last
+pub data-guide : (s : Stores) (f answers : List ℕ) (last : ℕ) → s .guide ≡ taken (Data Two) s f answers last .stores .guide
+data-guide s f answers last = taken-other (Data Two) s f answers last

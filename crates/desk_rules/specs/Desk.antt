@@ -5,6 +5,7 @@ use mathlib.Core.List.{List, [], _∷_, _++_}
 use mathlib.Core.Bool.{Bool, _&&_, cond}
 use lib.Dec.{leb, eqb}
 use lib.ListN.{length, drop, getD, replicate}
+use Rattle.versions.specs.declared.Version.the-variants.{Two}
 use Rattle.rules.specs.declared.Kind.the-variants.{Data, Guide}
 use Rattle.rules.specs.declared.Seen.{Seen}
 use Rattle.rules.specs.declared.Taken.{Taken}
@@ -109,7 +110,7 @@ abbrev pub guideTake : Desk → Outcome
 guideTake d = taken Guide (d .stores) (d .collection) (replicate mostAnswers 0) (d .guideLast)
 
 abbrev pub dataTake : Desk → Outcome
-dataTake d = taken Data (d .stores) (d .collection) (replicate mostAnswers 0) (d .dataLast)
+dataTake d = taken (Data Two) (d .stores) (d .collection) (replicate mostAnswers 0) (d .dataLast)
 
 -- "`02` take as guide file; `03` take as data file"; "A take empties the collection"
 unfoldable pub takingGuide : Desk → Reply

@@ -5,6 +5,7 @@ use mathlib.Core.List.{List, [], _∷_, _++_}
 use mathlib.Core.Bool.{cond}
 use lib.Dec.{eqb}
 use lib.ListN.{length, drop, getD, replicate}
+use Rattle.versions.specs.declared.Version.the-variants.{Two}
 use Rattle.rules.specs.declared.Kind.the-variants.{Data, Guide}
 use Rattle.rules.specs.Takes.{Stores, Outcome, lineAt, taken}
 use Rattle.rules.specs.History.{Item, itemOf}
@@ -19,7 +20,7 @@ abbrev pub guideFile : Desk → File
 guideFile d = record { kind = Guide; bytes = d .collection; answers = replicate mostAnswers 0; last = d .guideLast }
 
 abbrev pub dataFile : Desk → File
-dataFile d = record { kind = Data; bytes = d .collection; answers = replicate mostAnswers 0; last = d .dataLast }
+dataFile d = record { kind = Data Two; bytes = d .collection; answers = replicate mostAnswers 0; last = d .dataLast }
 
 -- "`02` take as guide file; `03` take as data file"; no other frame takes one
 unfoldable pub frameFiles : Desk → ℕ → List ℕ → List File

@@ -1,9 +1,10 @@
-// A whole line of a file: the first fault of a record and of a row.
+// A whole line of a file: the first fault of a record, of either version, and of a row.
 ghost use mathlib.Core.Path.{_≡_};
 ghost use mathlib.Core.Bool.{false};
-ghost use Rattle.layout.specs.Tables.{dataRecord, guideRow};
+ghost use Rattle.layout.specs.Tables.{dataRecord, narrowRecord, guideRow};
 ghost use Rattle.layout.specs.Rules.{faultIn, isLax, recordFault, rowFault};
 use layout::field;
+use layout::table::NARROW;
 use layout::table::RECORD;
 use layout::table::ROW;
 use lines::check;
@@ -48,7 +49,15 @@ pub fn record_fault(rec: &[u8]) -> usize
     seek_record_fault(lax, rec)
 }
 
-// The first fault of a guide row, in the same way.
+// The first fault of a data record of Version 1: there are few of them, and each is walked by its table.
+pub fn narrow_fault(rec: &[u8]) -> usize
+    ensures { λ r. ⌜ r ≡ recordFault narrowRecord (now (rec .entry)) ⌝ }
+{
+    let fields: &[usize] = &NARROW;
+    check::first_fault(fields, is_lax_code(field::function(rec)), rec)
+}
+
+// The first fault of a guide row, in the same way as that of a data record.
 pub fn row_fault(row: &[u8]) -> usize
     ensures { λ r. ⌜ r ≡ rowFault guideRow (now (row .entry)) ⌝ }
 {

@@ -7,7 +7,7 @@ use mathlib.Core.Bool.{Bool, true, false, _&&_, cond}
 use lib.Dec.{eqb}
 use Rattle.text.specs.Text.{sameBytes, putAt, spaces, leftDigits, rightDigits}
 use Rattle.calendar.specs.Calendar.{dayOf, onDay}
-use Rattle.layout.specs.Tables.{header, trailer, startOf, sizeOf, field, opener, frameDate, name, cycle, count, frameStar}
+use Rattle.layout.specs.Tables.{headerTable, header, trailer, startOf, sizeOf, field, opener, frameDate, name, cycle, count, frameStar}
 use Rattle.layout.specs.Counters.{cycleOf, onCycle, countOf, onCount}
 use Rattle.layout.specs.Rules.{faultIn}
 use Rattle.layout.specs.declared.counter.Count.{Count}
@@ -82,7 +82,7 @@ frameWith letters date company counter m =
     (putAt (startOf header frameDate) date
     (putAt (startOf header name) company
     (putAt (startOf header cycle) counter
-    (putAt (startOf header frameStar) (42 ∷ [])
+    (putAt (startOf (headerTable m) frameStar) (42 ∷ [])
     (spaces m)))))
 
 -- a header; "the cycle has no leading zero"

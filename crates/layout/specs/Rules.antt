@@ -10,7 +10,7 @@ use Rattle.text.specs.Text.{allIn, allOf, blank, runOf, runsOf, sameBytes, onNu
 use Rattle.calendar.specs.Calendar.{dayOf, onDay}
 use Rattle.layout.specs.Tables.{free, leftText, named, code, digits, house, direction, oneDigit, zeroToFive, capitals}
 use Rattle.layout.specs.Tables.{spaceOrC, zone, companyLetters, mmddyy, star, rowZone, rowCode, opening, closing, turn, tally}
-use Rattle.layout.specs.Tables.{lowEnd, highEnd, parityLetter}
+use Rattle.layout.specs.Tables.{lowEnd, highEnd, parityLetter, firstCode}
 use Rattle.layout.specs.Counters.{cycleOf, onCycle, countOf, onCount}
 use Rattle.layout.specs.Fields.{functionOf, houseIn, endIn, lowOf, highOf, parityOf, allows}
 
@@ -69,7 +69,8 @@ keepsOther r f =
     (cond (eqb r star) (allOf (42 ∷ []) f)
     (cond (eqb r rowZone) (runsOf Digit 1 5 f)
     (cond (eqb r rowCode) (allOf (73 ∷ 68 ∷ []) f)
-    (keepsFrame r f)))))))
+    (cond (eqb r firstCode) (allOf (67 ∷ 68 ∷ 73 ∷ []) f)
+    (keepsFrame r f))))))))
 
 -- "(General Use, Reserved, free parts and the record count excepted). Function is C, D, I, U or M. NPA and Calling Number are all
 -- digits. .. Class is a digit; Type 0 to 5; State two capitals; .. Street Name, Community, State, Class and Type may be blank only

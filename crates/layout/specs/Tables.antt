@@ -106,6 +106,10 @@ turn = 23
 abbrev pub tally : ℕ
 tally = 24
 
+-- C, D or I
+abbrev pub firstCode : ℕ
+firstCode = 25
+
 -- ---- the tables
 
 -- "Data record, 512."
@@ -150,27 +154,76 @@ dataRecord =
     512 ∷ 1 ∷ star ∷  -- `*`
     []
 
--- "Header, 200."
-abbrev pub header : List ℕ
-header =
+-- 2026-01, "the 240-byte record of document 003, Exhibit 1": the fields of the data record in their order, with the lengths that they
+-- have in Version 1; some have no bytes
+abbrev pub narrowRecord : List ℕ
+narrowRecord =
+    1 ∷ 1 ∷ firstCode ∷  -- Function
+    2 ∷ 3 ∷ digits ∷  -- NPA
+    5 ∷ 7 ∷ digits ∷  -- Calling Number
+    12 ∷ 10 ∷ house ∷  -- House Number
+    22 ∷ 4 ∷ leftText ∷  -- House Suffix
+    26 ∷ 2 ∷ direction ∷  -- Prefix Directional
+    28 ∷ 40 ∷ named ∷  -- Street Name
+    68 ∷ 4 ∷ leftText ∷  -- Street Suffix
+    72 ∷ 2 ∷ direction ∷  -- Post Directional
+    74 ∷ 32 ∷ named ∷  -- Community
+    106 ∷ 2 ∷ capitals ∷  -- State
+    108 ∷ 20 ∷ leftText ∷  -- Location
+    128 ∷ 32 ∷ leftText ∷  -- Customer Name
+    160 ∷ 1 ∷ oneDigit ∷  -- Class
+    161 ∷ 1 ∷ zeroToFive ∷  -- Type
+    162 ∷ 4 ∷ leftText ∷  -- Exchange
+    166 ∷ 5 ∷ zone ∷  -- ESN
+    171 ∷ 3 ∷ leftText ∷  -- Main NPA
+    174 ∷ 7 ∷ leftText ∷  -- Main Number
+    181 ∷ 10 ∷ leftText ∷  -- Order
+    191 ∷ 6 ∷ mmddyy ∷  -- Date
+    197 ∷ 4 ∷ leftText ∷  -- County
+    201 ∷ 5 ∷ companyLetters ∷  -- Company ID
+    206 ∷ 1 ∷ spaceOrC ∷  -- Source
+    207 ∷ 5 ∷ leftText ∷  -- Zip
+    212 ∷ 4 ∷ leftText ∷  -- Zip+4
+    216 ∷ 11 ∷ free ∷  -- General Use
+    227 ∷ 0 ∷ leftText ∷  -- Customer Code
+    227 ∷ 0 ∷ leftText ∷  -- Comments
+    227 ∷ 0 ∷ leftText ∷  -- X
+    227 ∷ 0 ∷ leftText ∷  -- Y
+    227 ∷ 0 ∷ leftText ∷  -- Z
+    227 ∷ 0 ∷ leftText ∷  -- Cell
+    227 ∷ 0 ∷ leftText ∷  -- Sector
+    227 ∷ 0 ∷ leftText ∷  -- TAR
+    227 ∷ 13 ∷ free ∷  -- Reserved
+    240 ∷ 1 ∷ star ∷  -- `*`
+    []
+
+-- "Header, 200."; of m bytes, 2026-01: "ours, with the free part shortened"
+abbrev pub headerTable : ℕ → List ℕ
+headerTable m =
     1 ∷ 5 ∷ opening ∷  -- `UHL` and two spaces
     6 ∷ 6 ∷ mmddyy ∷  -- date
     12 ∷ 50 ∷ named ∷  -- company name
     62 ∷ 6 ∷ turn ∷  -- cycle
-    68 ∷ 132 ∷ free ∷  -- free
-    200 ∷ 1 ∷ star ∷  -- `*`
+    68 ∷ (m - 68) ∷ free ∷  -- free
+    m ∷ 1 ∷ star ∷  -- `*`
     []
 
--- "Trailer, 200."
-abbrev pub trailer : List ℕ
-trailer =
+abbrev pub header : List ℕ
+header = headerTable 200
+
+-- "Trailer, 200."; of m bytes
+abbrev pub trailerTable : ℕ → List ℕ
+trailerTable m =
     1 ∷ 5 ∷ closing ∷  -- `UTL` and two spaces
     6 ∷ 6 ∷ mmddyy ∷  -- date
     12 ∷ 50 ∷ named ∷  -- name
     62 ∷ 9 ∷ tally ∷  -- record count
-    71 ∷ 129 ∷ free ∷  -- free
-    200 ∷ 1 ∷ star ∷  -- `*`
+    71 ∷ (m - 71) ∷ free ∷  -- free
+    m ∷ 1 ∷ star ∷  -- `*`
     []
+
+abbrev pub trailer : List ℕ
+trailer = trailerTable 200
 
 -- "Guide row, 200."
 abbrev pub guideRow : List ℕ
@@ -206,6 +259,12 @@ header-tiles = refl
 
 pub trailer-tiles : tiles 1 200 trailer ≡ true
 trailer-tiles = refl
+
+pub narrow-header-tiles : tiles 1 160 (headerTable 160) ≡ true
+narrow-header-tiles = refl
+
+pub narrow-trailer-tiles : tiles 1 160 (trailerTable 160) ≡ true
+narrow-trailer-tiles = refl
 
 pub row-tiles : tiles 1 200 guideRow ≡ true
 row-tiles = refl

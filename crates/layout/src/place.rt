@@ -1,6 +1,7 @@
 // Where each field of a line lies: its first byte, from 0, and how many it has, computed from the tables; and how long a line is.
 use crate::table;
 use crate::table::HEADER;
+use crate::table::NARROW;
 use crate::table::RECORD;
 use crate::table::ROW;
 use crate::table::TRAILER;
@@ -239,9 +240,14 @@ pub const FRAME_STAR_AT: usize = HEADER[3 * table::FRAME_STAR] - 1;
 // How many bytes a line has: its `*` is the last.
 pub const RECORD_SIZE: usize = RECORD_STAR_AT + 1;
 
+pub const NARROW_SIZE: usize = NARROW[3 * table::RECORD_STAR];
+
 pub const ROW_SIZE: usize = ROW_STAR_AT + 1;
 
 pub const FRAME_SIZE: usize = FRAME_STAR_AT + 1;
+
+// The free part of header and trailer is shorter in Version 1.
+pub const NARROW_FRAME_SIZE: usize = 160;
 
 // Header and trailer together.
 pub const FRAMES_SIZE: usize = 2 * FRAME_SIZE;

@@ -2,7 +2,8 @@
 // and writing all use these tables: no position stands anywhere else. Beside the number of a rule stand the letters or the bounds
 // that it names, for all that check it.
 ghost use mathlib.Core.Path.{_≡_};
-ghost use Rattle.layout.specs.Tables.{dataRecord, guideRow, header, trailer};
+ghost use Prim.Native.Nat.{_-_};
+ghost use Rattle.layout.specs.Tables.{dataRecord, narrowRecord, guideRow, headerTable, trailerTable, header, trailer};
 
 // Any printable bytes.
 pub const FREE: usize = 1;
@@ -101,6 +102,11 @@ pub const TURN: usize = 23;
 
 // A record count.
 pub const TALLY: usize = 24;
+
+// C, D or I.
+pub const FIRST_CODE: usize = 25;
+
+pub const FIRST_CODES: [u8; 3] = [b'C', b'D', b'I'];
 
 // The data record, 512 bytes.
 pub const RECORD: [usize; 111] = [
@@ -217,6 +223,121 @@ pub const RECORD: [usize; 111] = [
     STAR,
 ];
 
+// The data record of Version 1, 240 bytes: the same fields.
+pub const NARROW: [usize; 111] = [
+    1, // Function
+    1,
+    FIRST_CODE,
+    2, // NPA
+    3,
+    DIGITS,
+    5, // Calling Number
+    7,
+    DIGITS,
+    12, // House Number
+    10,
+    HOUSE,
+    22, // House Suffix
+    4,
+    TEXT,
+    26, // Prefix Directional
+    2,
+    DIRECTION,
+    28, // Street Name
+    40,
+    NAMED,
+    68, // Street Suffix
+    4,
+    TEXT,
+    72, // Post Directional
+    2,
+    DIRECTION,
+    74, // Community
+    32,
+    NAMED,
+    106, // State
+    2,
+    CAPITALS,
+    108, // Location
+    20,
+    TEXT,
+    128, // Customer Name
+    32,
+    TEXT,
+    160, // Class
+    1,
+    ONE_DIGIT,
+    161, // Type
+    1,
+    ZERO_TO_FIVE,
+    162, // Exchange
+    4,
+    TEXT,
+    166, // ESN
+    5,
+    ZONE,
+    171, // Main NPA
+    3,
+    TEXT,
+    174, // Main Number
+    7,
+    TEXT,
+    181, // Order
+    10,
+    TEXT,
+    191, // Date
+    6,
+    MMDDYY,
+    197, // County
+    4,
+    TEXT,
+    201, // Company ID
+    5,
+    COMPANY_LETTERS,
+    206, // Source
+    1,
+    SPACE_OR_C,
+    207, // Zip
+    5,
+    TEXT,
+    212, // Zip+4
+    4,
+    TEXT,
+    216, // General Use
+    11,
+    FREE,
+    227, // Customer Code
+    0,
+    TEXT,
+    227, // Comments
+    0,
+    TEXT,
+    227, // X
+    0,
+    TEXT,
+    227, // Y
+    0,
+    TEXT,
+    227, // Z
+    0,
+    TEXT,
+    227, // Cell
+    0,
+    TEXT,
+    227, // Sector
+    0,
+    TEXT,
+    227, // TAR
+    0,
+    TEXT,
+    227, // Reserved
+    13,
+    FREE,
+    240, // `*`
+    1,
+    STAR,
+];
+
 // The guide row, 200 bytes.
 pub const ROW: [usize; 39] = [
     1, // Prefix
@@ -317,6 +438,12 @@ pub fn data_record() -> RecordTable
     RECORD
 }
 
+pub fn narrow_record() -> RecordTable
+    ensures { λ r. ⌜ r ≡ narrowRecord ⌝ }
+{
+    NARROW
+}
+
 pub fn guide_row() -> RowTable
     ensures { λ r. ⌜ r ≡ guideRow ⌝ }
 {
@@ -333,6 +460,36 @@ pub fn trailer() -> FrameTable
     ensures { λ r. ⌜ r ≡ trailer ⌝ }
 {
     TRAILER
+}
+
+// How many bytes lie from one position to another.
+fn from_to(a: usize, b: usize) -> usize
+    ensures { λ r. ⌜ r ≡ b - a ⌝ }
+{
+    if b < a {
+        return 0;
+    }
+    b - a
+}
+
+// The header's table for a header of m bytes: the free part ends before its `*`.
+pub fn header_table(m: usize) -> FrameTable
+    ensures { λ r. ⌜ r ≡ headerTable m ⌝ }
+{
+    let mut table = HEADER;
+    table[3 * FRAME_FREE + 1] = from_to(HEADER[3 * FRAME_FREE], m);
+    table[3 * FRAME_STAR] = m;
+    table
+}
+
+// The trailer's, in the same way.
+pub fn trailer_table(m: usize) -> FrameTable
+    ensures { λ r. ⌜ r ≡ trailerTable m ⌝ }
+{
+    let mut table = TRAILER;
+    table[3 * FRAME_FREE + 1] = from_to(TRAILER[3 * FRAME_FREE], m);
+    table[3 * FRAME_STAR] = m;
+    table
 }
 
 // Fields by their places in the tables, from 0: those of the data record,
@@ -447,5 +604,7 @@ pub const NAME: usize = 2;
 pub const CYCLE: usize = 3;
 
 pub const COUNT: usize = 3;
+
+pub const FRAME_FREE: usize = 4;
 
 pub const FRAME_STAR: usize = 5;

@@ -21,6 +21,8 @@ use layout::table::COMPANY_LETTERS;
 use layout::table::COMPANY_MOST;
 use layout::table::DIGITS;
 use layout::table::DIRECTION;
+use layout::table::FIRST_CODE;
+use layout::table::FIRST_CODES;
 use layout::table::FREE;
 use layout::table::HEADER_LETTERS;
 use layout::table::HIGH_END;
@@ -150,6 +152,7 @@ fn keeps_other(rule: usize, f: &[u8]) -> bool
         STAR => text::all_of(f, &STARS),
         ROW_ZONE => text::runs(f, Class::Digit, ROW_ZONE_LEAST, ROW_ZONE_MOST),
         ROW_CODE => text::all_of(f, &ROW_CODES),
+        FIRST_CODE => text::all_of(f, &FIRST_CODES),
         _ => keeps_frame(rule, f),
     }
 }
@@ -256,7 +259,8 @@ fn field_fault(at: usize, n: usize, rule: usize, lax: bool, line: &[u8], f: &[u8
     at
 }
 
-fn from_zero(at: usize) -> usize
+// A position counts from 1, a place from 0.
+pub fn from_zero(at: usize) -> usize
     ensures { λ r. ⌜ r ≡ fromZero at ⌝ }
 {
     if at == 0 {

@@ -78,8 +78,9 @@ pub fn trailer_in(table: &[usize], header: &[u8], s: &[u8]) -> Closed
 fn put_frame(s: &mut [u8], letters: &[u8], date: &[u8], company: &[u8], counter: &[u8])
     ensures { λ _. ⌜ now (s .exit) ≡ frameWith (now (letters .entry)) (now (date .entry)) (now (company .entry)) (now (counter .entry)) (length (now (s .entry))) ⌝ }
 {
+    let star = check::from_zero(s.len()); // the last byte, whichever length
     text::fill(&mut s[..], b' ');
-    text::put(&mut s[..], place::FRAME_STAR_AT, &STARS);
+    text::put(&mut s[..], star, &STARS);
     text::put(&mut s[..], place::CYCLE_AT, counter);
     text::put(&mut s[..], place::NAME_AT, company);
     text::put(&mut s[..], place::FRAME_DATE_AT, date);

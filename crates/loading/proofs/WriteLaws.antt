@@ -1,28 +1,37 @@
--- The turns of the loops over the slots, which count the entries and lay their records one behind the other; one record in the part
--- that is lent for it; the size of the file, and the file from its three parts.
+-- The turns of the loops over the slots, which count the entries and lay their records one behind the other; the header, and one record
+-- in the part that is lent for it; what the refusals leave known; the size of the file, and the file from its three parts. All but two-none
+-- is over the version v: how many bytes a line, a header and a trailer have is what its shape says.
 -- Assumes nothing.
 use mathlib.Core.Path.{_≡_, _∙_, refl, sym, ap}
-use mathlib.Core.Bool.{Bool, true, false, cond}
+use mathlib.Core.Bool.{Bool, true, false, _&&_, cond}
 use mathlib.Core.List.{List, [], _++_, append-assoc, append-nil}
 use Prim.Native.Nat.{ℕ, zero, suc, _+_, _*_, _-_, _≤_, _<_}
 use native.Mathlib.Numerals.{add-one}
-use native.Mathlib.Nat.{add-sub-cancel-left}
+use native.Mathlib.Nat.{le-trans, sub-zero, zero-mul, add-mul, mul-le-mul-right, add-sub-cancel-left}
 use native.Mathlib.Decide.{decLt}
 use native.Mathlib.Omega.{arith}
+use lib.Dec.{eqb}
 use lib.ListN.{drop-of-length-le, length, take, drop, length-append, length-drop, take-append-drop}
 use lib.Seq.{take-at, drop-append-add, drop-drop, drop-at, drop-length}
 use Rattle.text.specs.Text.{putAt}
-use Rattle.layout.specs.Frames.{headerWith, trailerWith}
+use Rattle.text.proofs.Laws.{and-left, and-false}
+use Rattle.layout.specs.Tables.{headerTable}
+use Rattle.layout.specs.Frames.{headerOf, headerWith, trailerWith}
 use Rattle.layout.specs.Fields.{forLoad}
-use Rattle.text.proofs.Laws.{and-left}
+use Rattle.versions.specs.declared.Version.{Version}
+use Rattle.versions.specs.declared.Version.the-variants.{Two}
+use Rattle.versions.specs.Versions.{narrowOf}
+use Rattle.rules.specs.declared.Kind.the-variants.{Data}
+use Rattle.rules.specs.declared.Found.the-variants.{Nothing}
 use Rattle.rules.specs.Walks.{find, isNothing, count}
 use Rattle.rules.specs.Slots.{slotSize, goodLength, unsoundSlot, registerSound, slots, slotAt, recordOf}
-use Rattle.rules.specs.Loads.{entryAt, entriesIn, linesTo, headerFor, trailerFor, loadFile, loadSize}
-use Rattle.rules.proofs.WalkLaws.{at-most-one}
+use Rattle.rules.specs.Takes.{shapeOf, edges}
+use Rattle.rules.specs.Loads.{isEntry, entryAt, entriesIn, linesTo, headerFor, trailerFor, loadFile, loadSize, loadHeader, wideAt}
+use Rattle.rules.proofs.WalkLaws.{find-nowhere, at-most-one}
 use Rattle.rules.proofs.PlaceLaws.{part-length}
 use Rattle.rules.proofs.SlotLaws.{put-is}
 use Rattle.rules.proofs.LookupLaws.{long-few}
-use Rattle.rules.proofs.LoadLength.{lines-length, header-length}
+use Rattle.rules.proofs.LoadLength.{lines-length, header-length, trailer-length}
 
 -- ---- the count: e of the first i slots have an entry
 
@@ -45,6 +54,30 @@ counted-more p n i e r b c t q s =
       few = omega (arith, c .few, at-most-one b, s);
     }
 
+-- ---- the header, written over the first n bytes of others and read back from there; the code lends them from 0 to n, which are n - 0
+
+-- as many bytes as the version has of it: it is the load file's
+header-put : (v : Version) (date company : List ℕ) (c n : ℕ) (line H : List ℕ) → n ≡ shapeOf (Data v) .frame → n ≤ length line
+    → H ≡ headerWith date company c (length (take (n - 0) (drop 0 line))) → H ≡ headerFor v date company c
+unfolding headerFor
+header-put v date company c n line H p h x = rw (sub-zero n, part-length 0 n line (omega arith), p) at x
+
+-- they are still there
+pub header-room : (n : ℕ) (line H : List ℕ) → n ≤ length line → length H ≡ length (take (n - 0) (drop 0 line))
+    → n ≤ length (H ++ drop (n - 0) line)
+header-room n line H h l = rw (length-append, l, sub-zero n, part-length 0 n line (omega arith)) (omega arith)
+
+-- and are read by the table for their length, if date and name have theirs
+pub header-read : (v : Version) (date company : List ℕ) (c n : ℕ) (t line H : List ℕ) → n ≡ shapeOf (Data v) .frame → n ≤ length line
+    → H ≡ headerWith date company c (length (take (n - 0) (drop 0 line))) → t ≡ headerTable n
+    → eqb (length date) 6 && eqb (length company) 50 ≡ true
+    → headerOf t (take (n - 0) (H ++ drop (n - 0) line)) ≡ loadHeader v date company c
+unfolding loadHeader
+header-read v date company c n t line H p h x e b =
+    let head : H ≡ headerFor v date company c = header-put v date company c n line H p h x in
+    let long : length H ≡ n = ap length head ∙ header-length v date company c ∙ sym p in
+    rw (b, sub-zero n, take-at H (drop n line) n long, e, head, p) refl
+
 -- ---- one record
 
 -- bytes over as many others
@@ -54,28 +87,23 @@ put-all b s e =
     ∙ ap (λ (x : List ℕ). b ++ x) (drop-length s)
     ∙ append-nil b
 
--- the part that is lent for it has its length
-pub line-room : (s out : List ℕ) (at : ℕ) → length s ≡ 520 → at + 512 ≤ length out
-    → length (recordOf s) ≡ length (take (at + 512 - at) (drop at out))
-unfolding recordOf
-line-room s out at l h =
-    part-length 8 512 s (omega arith)
-    ∙ sym (part-length at 512 out h)
-    ∙ ap (λ (n : ℕ). length (take n (drop at out))) (sym (add-sub-cancel-left at 512))
+-- the part that is lent for a line of u bytes has its length
+pub line-room : (u at : ℕ) (out : List ℕ) → at + u ≤ length out → length (take (at + u - at) (drop at out)) ≡ u
+line-room u at out h = ap (λ (n : ℕ). length (take n (drop at out))) (add-sub-cancel-left at u) ∙ part-length at u out h
 
--- what is asked for where a slot has an entry
-pub entry-room : (b : Bool) (at n : ℕ) → b ≡ true → at + cond b 512 0 ≤ n → at + 512 ≤ n
-entry-room b at n e h = rw e at h
+-- what is asked for where a slot has an entry, whose line has w bytes
+pub entry-room : (b : Bool) (w u at n : ℕ) → b ≡ true → u ≡ w → at + cond b w 0 ≤ n → at + u ≤ n
+entry-room b w u at n e p h = rw (e, ← p) at h
 
 -- what comes back with it, and without an entry
-pub entry-back : (b : Bool) (at : ℕ) (x line out : List ℕ) → b ≡ true → line ≡ x
-    → (at + 512 ≡ at + cond b 512 0) × (take at out ++ (line ++ drop (at + 512 - at) (drop at out)) ≡ take at out ++ (cond b x [] ++ drop (at + 512) out))
-entry-back b at x line out e q =
-    (rw e refl, rw (e, q, add-sub-cancel-left at 512, drop-drop) refl)
+pub entry-back : (b : Bool) (w u at : ℕ) (x line out : List ℕ) → b ≡ true → u ≡ w → line ≡ x
+    → (at + u ≡ at + cond b w 0)
+    × (take at out ++ (line ++ drop (at + u - at) (drop at out)) ≡ take at out ++ (cond b x [] ++ drop (at + u) out))
+entry-back b w u at x line out e p q = (rw (e, p) refl, rw (e, q, add-sub-cancel-left at u, drop-drop) refl)
 
-pub entry-none : (b : Bool) (at : ℕ) (x out : List ℕ) → b ≡ false
-    → (at ≡ at + cond b 512 0) × (out ≡ take at out ++ (cond b x [] ++ drop at out))
-entry-none b at x out e = (rw e (omega arith), rw e (sym (take-append-drop at out)))
+pub entry-none : (b : Bool) (w at : ℕ) (x out : List ℕ) → b ≡ false
+    → (at ≡ at + cond b w 0) × (out ≡ take at out ++ (cond b x [] ++ drop at out))
+entry-none b w at x out e = (rw e (omega arith), rw e (sym (take-append-drop at out)))
 
 -- ---- the records: those of the first i slots are written over the old bytes, up to `at`
 
@@ -94,141 +122,170 @@ unfolding count
 count-most p zero = omega arith
 count-most p (suc n) = omega (arith, count-most p n, at-most-one (p n))
 
-pub record Laid (R old : List ℕ) (i at : ℕ) (new : List ℕ) : Type 0 where
+pub record Laid (v : Version) (R old : List ℕ) (i at : ℕ) (new : List ℕ) : Type 0 where
   pub within : i ≤ slots R
-  pub place : at ≡ count (entryAt R) i * 512
-  pub bytes : new ≡ linesTo R i ++ drop at old
+  pub place : at ≡ count (entryAt R) i * shapeOf (Data v) .line
+  pub bytes : new ≡ linesTo v R i ++ drop at old
 
-module _ (R old : List ℕ) where
-  pub laid-none : Laid R old 0 0 old
+-- slot i adds a line to those before it, or nothing
+line-more : (n w : ℕ) (b : Bool) → n * w + cond b w 0 ≡ (n + cond b 1 0) * w
+line-more n w true = omega (arith, add-mul n 1 w)
+line-more n w false = omega (arith, add-mul n 0 w)
+
+module _ (v : Version) (R old : List ℕ) where
+  pub laid-none : Laid v R old 0 0 old
   unfolding count linesTo
-  laid-none = record { within = omega arith; place = refl; bytes = refl }
+  laid-none = record { within = omega arith; place = sym (zero-mul (shapeOf (Data v) .line)); bytes = refl }
 
-  module _ (room : entriesIn R * 512 ≤ length old) (i at : ℕ) (new : List ℕ) (laid : Laid R old i at new) where
-    long : length (linesTo R i) ≡ at
-    long = lines-length R i (laid .within) ∙ sym (laid .place)
+  module _ (room : entriesIn R * shapeOf (Data v) .line ≤ length old) (i at : ℕ) (new : List ℕ) (laid : Laid v R old i at new) where
+    long : length (linesTo v R i) ≡ at
+    long = lines-length v R i (laid .within) ∙ sym (laid .place)
 
-    inside : at ≤ length old
+    -- the lines of no more slots than there are fit in
+    inside : (n : ℕ) → n ≤ slots R → count (entryAt R) n * shapeOf (Data v) .line ≤ length old
     unfolding entriesIn
-    inside = omega (arith, count-le (entryAt R) i (slots R) (laid .within), laid .place)
+    inside n h = le-trans (mul-le-mul-right (shapeOf (Data v) .line) (count-le (entryAt R) n (slots R) h)) room
 
     pub laid-length : length new ≡ length old
-    laid-length = rw (laid .bytes, length-append, length-drop) (omega (arith, long, inside))
+    laid-length = rw (laid .bytes, length-append, length-drop) (omega (arith, long, laid .place, inside i (laid .within)))
 
-    -- there is room for the next one
-    pub laid-room : i < slots R → at + cond (entryAt R i) 512 0 ≤ length old
-    unfolding entriesIn count
-    laid-room t = go (entryAt R i) (count-le (entryAt R) (suc i) (slots R) (omega arith))
-      where
-        go : (b : Bool) → count (entryAt R) i + cond b 1 0 ≤ count (entryAt R) (slots R) → at + cond b 512 0 ≤ length old
-        go true h = omega (arith, laid .place)
-        go false h = omega (arith, laid .place)
+    -- where the next one goes
+    next-place : at + cond (entryAt R i) (shapeOf (Data v) .line) 0 ≡ count (entryAt R) (suc i) * shapeOf (Data v) .line
+    unfolding count
+    next-place = rw (laid .place) (line-more (count (entryAt R) i) (shapeOf (Data v) .line) (entryAt R i))
 
-    pub laid-more : i < slots R → (r : ℕ) → r ≡ at + cond (entryAt R i) 512 0 → (next : List ℕ)
-        → next ≡ take at new ++ (cond (entryAt R i) (forLoad (recordOf (slotAt R i))) [] ++ drop r new) → Laid R old (i + 1) r next
-    unfolding count linesTo
+    -- there is room for it
+    pub laid-room : i < slots R → at + cond (entryAt R i) (shapeOf (Data v) .line) 0 ≤ length old
+    laid-room t = rw next-place (inside (suc i) t)
+
+    pub laid-more : i < slots R → (r : ℕ) → r ≡ at + cond (entryAt R i) (shapeOf (Data v) .line) 0 → (next : List ℕ)
+        → next ≡ take at new ++ (cond (entryAt R i) (narrowOf v (forLoad (recordOf (slotAt R i)))) [] ++ drop r new)
+        → Laid v R old (i + 1) r next
+    unfolding linesTo
     laid-more t r e next q =
         record {
           within = omega arith;
-          place = rw add-one (go (entryAt R i) e);
+          place = rw add-one (e ∙ next-place);
           bytes =
-              rw (add-one i, q, laid .bytes, take-at (linesTo R i) (drop at old) at long)
-              (ap (λ (x : List ℕ). linesTo R i ++ (cond (entryAt R i) (forLoad (recordOf (slotAt R i))) [] ++ x)) behind
-              ∙ sym (append-assoc (linesTo R i) (cond (entryAt R i) (forLoad (recordOf (slotAt R i))) []) (drop r old)));
+              rw (add-one i, q, laid .bytes, take-at (linesTo v R i) (drop at old) at long)
+              (ap (λ (x : List ℕ). linesTo v R i ++ (line ++ x)) behind ∙ sym (append-assoc (linesTo v R i) line (drop r old)));
         }
       where
-        go : (b : Bool) → r ≡ at + cond b 512 0 → r ≡ (count (entryAt R) i + cond b 1 0) * 512
-        go true h = omega (arith, laid .place)
-        go false h = omega (arith, laid .place)
+        line : List ℕ
+        line = cond (entryAt R i) (narrowOf v (forLoad (recordOf (slotAt R i)))) []
 
-        behind : drop r (linesTo R i ++ drop at old) ≡ drop r old
+        step : ℕ
+        step = cond (entryAt R i) (shapeOf (Data v) .line) 0
+
+        behind : drop r (linesTo v R i ++ drop at old) ≡ drop r old
         behind =
             rw e
-            (ap (λ (k : ℕ). drop (k + cond (entryAt R i) 512 0) (linesTo R i ++ drop at old)) (sym long)
-            ∙ drop-append-add (linesTo R i) (drop at old) (cond (entryAt R i) 512 0)
-            ∙ drop-drop (cond (entryAt R i) 512 0) at old)
+            (ap (λ (k : ℕ). drop (k + step) (linesTo v R i ++ drop at old)) (sym long)
+            ∙ drop-append-add (linesTo v R i) (drop at old) step
+            ∙ drop-drop step at old)
 
-    pub laid-all : slots R ≤ i → new ≡ linesTo R (slots R) ++ drop (entriesIn R * 512) old
+    pub laid-all : slots R ≤ i → new ≡ linesTo v R (slots R) ++ drop (entriesIn R * shapeOf (Data v) .line) old
     unfolding entriesIn
     laid-all t = let z : i ≡ slots R = omega (arith, laid .within) in rw (laid .bytes, laid .place, z) refl
 
--- ---- the file
+-- ---- the refusals
 
--- the size of the file, from the count of its entries
-pub size-of : (R : List ℕ) (e : ℕ) → e ≡ entriesIn R → 400 + e * 512 ≡ loadSize R
-unfolding loadSize
-size-of R e q = rw q refl
-
-pub file-room : (R : List ℕ) (e n : ℕ) → e ≡ entriesIn R → loadSize R ≤ n → 400 + e * 512 ≤ n
-file-room R e n q h = rw (size-of R e q) h
+-- every record fits in Version 2
+pub two-none : (R : List ℕ) → find (wideAt Two R) (slots R) ≡ Nothing
+unfolding wideAt
+two-none R = find-nowhere (wideAt Two R) (slots R) (λ i h. and-false (isEntry (slotAt R i)))
 
 -- a sound register has at most 4096 slots
 pub few-slots : (R : List ℕ) → registerSound R ≡ true → slots R ≤ 4096
 unfolding registerSound
 few-slots R s = long-few R (and-left (goodLength slotSize R) (isNothing (find (unsoundSlot R) (slots R))) s)
 
+-- ---- the file
+
 -- a register of at most 4096 slots has few entries
 pub entries-few : (R : List ℕ) (e : ℕ) → e ≡ entriesIn R → slots R ≤ 4096 → e ≤ 4096
 unfolding entriesIn
 entries-few R e q h = omega (arith, count-most (entryAt R) (slots R))
 
--- the output as it is lent after the header, and after the lines, of m bytes
-abbrev pub headed : List ℕ → List ℕ → List ℕ
-headed H old = H ++ drop 200 old
+-- the size of the file, from the count of its entries
+pub size-of : (v : Version) (R : List ℕ) (e : ℕ) → e ≡ entriesIn R → edges (Data v) + e * shapeOf (Data v) .line ≡ loadSize v R
+unfolding loadSize
+size-of v R e q = rw q refl
 
-abbrev pub lined : List ℕ → List ℕ → ℕ → List ℕ
-lined one L m = take 200 one ++ (L ++ drop (200 + m - 200) (drop 200 one))
+-- the output as it is lent after a header of f bytes, after the lines up to byte g, and after the trailer up to byte k
+abbrev pub headed : ℕ → List ℕ → List ℕ → List ℕ
+headed f H old = H ++ drop (f - 0) old
 
-abbrev pub closed : List ℕ → List ℕ → ℕ → List ℕ
-closed two T m = take (200 + m) two ++ (T ++ drop (200 + m + 200 - (200 + m)) (drop (200 + m) two))
+abbrev pub lined : ℕ → ℕ → List ℕ → List ℕ → List ℕ
+lined f g one L = take f one ++ (L ++ drop (g - f) (drop f one))
 
-module _ (H L T old : List ℕ) (m : ℕ) (h : length H ≡ 200) (l : length L ≡ m) where
-  lined-is : lined (headed H old) L m ≡ (H ++ L) ++ drop (200 + m) old
+abbrev pub closed : ℕ → ℕ → List ℕ → List ℕ → List ℕ
+closed g k two T = take g two ++ (T ++ drop (k - g) (drop g two))
+
+module _ (f g : ℕ) (H L old : List ℕ) (h : length H ≡ f) (l : f + length L ≡ g) where
+  lined-is : lined f g (headed f H old) L ≡ (H ++ L) ++ drop g old
   lined-is =
-      rw (take-at H (drop 200 old) 200 h, drop-at H (drop 200 old) 200 h, add-sub-cancel-left 200 m, drop-drop)
-      (sym (append-assoc H L (drop (200 + m) old)))
+      rw (sub-zero f, take-at H (drop f old) f h, drop-at H (drop f old) f h, ← l, add-sub-cancel-left f (length L), drop-drop)
+      (sym (append-assoc H L (drop (f + length L) old)))
 
-  long-lined : length (H ++ L) ≡ 200 + m
+  long-lined : length (H ++ L) ≡ g
   long-lined = rw (length-append, h, l) refl
 
   -- three parts, each lent and written, are one behind the other
-  pub three-parts : closed (lined (headed H old) L m) T m ≡ (H ++ (L ++ T)) ++ drop (400 + m) old
-  three-parts =
-      let same : 200 + m + 200 ≡ 400 + m = omega arith in
-      rw (lined-is, take-at (H ++ L) (drop (200 + m) old) (200 + m) long-lined, drop-at (H ++ L) (drop (200 + m) old) (200 + m) long-lined, add-sub-cancel-left (200 + m) 200, drop-drop)
-      (ap (λ (k : ℕ). (H ++ L) ++ (T ++ drop k old)) same
-      ∙ append-assoc H L (T ++ drop (400 + m) old)
-      ∙ ap (λ (x : List ℕ). H ++ x) (sym (append-assoc L T (drop (400 + m) old)))
-      ∙ sym (append-assoc H (L ++ T) (drop (400 + m) old)))
+  three-parts : (k : ℕ) (T : List ℕ) → g + length T ≡ k → closed g k (lined f g (headed f H old) L) T ≡ (H ++ (L ++ T)) ++ drop k old
+  three-parts k T t =
+      let before = take-at (H ++ L) (drop g old) g long-lined in
+      let behind = drop-at (H ++ L) (drop g old) g long-lined in
+      rw (lined-is, before, behind, ← t, add-sub-cancel-left g (length T), drop-drop)
+      (append-assoc H L (T ++ drop (g + length T) old)
+      ∙ ap (λ (x : List ℕ). H ++ x) (sym (append-assoc L T (drop (g + length T) old)))
+      ∙ sym (append-assoc H (L ++ T) (drop (g + length T) old)))
 
--- the load file, from its three parts
-module _ (R date company : List ℕ) (c e : ℕ) (old : List ℕ) (q : e ≡ entriesIn R) (room : loadSize R ≤ length old) where
-  enough : 400 + e * 512 ≤ length old
-  enough = file-room R e (length old) q room
+-- the load file of k bytes, from its three parts: header and trailer have f bytes each
+module _ (v : Version) (R : List ℕ) (e f k : ℕ) (old : List ℕ) (q : e ≡ entriesIn R) (room : loadSize v R ≤ length old)
+    (p : f ≡ shapeOf (Data v) .frame) (s : k ≡ edges (Data v) + e * shapeOf (Data v) .line) where
+  sized : k ≡ loadSize v R
+  sized = s ∙ size-of v R e q
 
-  pub file-written : (H L T : List ℕ)
-      → H ≡ headerWith date company c (length (take 200 (drop 0 old)))
-      → L ≡ linesTo R (slots R) ++ drop (entriesIn R * 512) (take (200 + e * 512 - 200) (drop 200 (headed H old)))
-      → T ≡ trailerWith date company e (length (take (200 + e * 512 + 200 - (200 + e * 512)) (drop (200 + e * 512) (lined (headed H old) L (e * 512)))))
-      → closed (lined (headed H old) L (e * 512)) T (e * 512) ≡ loadFile R date company c ++ drop (loadSize R) old
-  unfolding loadFile headerFor trailerFor loadSize entriesIn
-  file-written H L T x y z =
-      let k : length (take 200 (drop 0 old)) ≡ 200 = part-length 0 200 old (omega (arith, enough)) in
-      let head : H ≡ headerFor date company c = rw k at x in
-      let h : length H ≡ 200 = ap length head ∙ header-length date company c in
-      let behind : drop 200 (headed H old) ≡ drop 200 old = drop-at H (drop 200 old) 200 h in
-      let within : length (take (e * 512) (drop 200 old)) ≡ e * 512 =
-      part-length 200 (e * 512) old (omega (arith, enough)) in
-      let ends : drop (entriesIn R * 512) (take (200 + e * 512 - 200) (drop 200 (headed H old))) ≡ [] =
-      rw (behind, add-sub-cancel-left 200 (e * 512), ← q)
-      (drop-of-length-le (take (e * 512) (drop 200 old)) {i = e * 512} (omega (arith, within))) in
-      let lines : L ≡ linesTo R (slots R) =
-      y ∙ ap (λ (x : List ℕ). linesTo R (slots R) ++ x) ends ∙ append-nil (linesTo R (slots R)) in
-      let l : length L ≡ e * 512 = ap length lines ∙ lines-length R (slots R) (omega arith) ∙ ap (λ (n : ℕ). n * 512) (sym q) in
-      let t : length (take (200 + e * 512 + 200 - (200 + e * 512)) (drop (200 + e * 512) (lined (headed H old) L (e * 512)))) ≡ 200 =
-      rw (add-sub-cancel-left (200 + e * 512) 200, lined-is H L T old (e * 512) h l)
-      (part-length (200 + e * 512) 200 ((H ++ L) ++ drop (200 + e * 512) old)
-      (rw (length-append, length-append, length-drop) (omega (arith, h, l, enough)))) in
-      let tail : T ≡ trailerFor date company (entriesIn R) =
-      (rw t at z) ∙ ap (λ (n : ℕ). trailerFor date company n) q in
-      three-parts H L T old (e * 512) h l ∙ (rw (head, lines, tail, q) refl)
+  pub file-room : k ≤ length old
+  file-room = rw sized room
+
+  -- what is lent for the lines has their length
+  lines-part : (H : List ℕ) → length H ≡ f → length (take (k - f - f) (drop f (headed f H old))) ≡ e * shapeOf (Data v) .line
+  lines-part H h =
+      let between : k - f - f ≡ e * shapeOf (Data v) .line = omega (arith, p, s) in
+      rw (sub-zero f, drop-at H (drop f old) f h, between) (part-length f (e * shapeOf (Data v) .line) old (omega (arith, p, s, file-room)))
+
+  pub lines-room : (H : List ℕ) → length H ≡ length (take (f - 0) (drop 0 old))
+      → entriesIn R * shapeOf (Data v) .line ≤ length (take (k - f - f) (drop f (headed f H old)))
+  lines-room H l =
+      let h : length H ≡ f = l ∙ (rw (sub-zero f) (part-length 0 f old (omega (arith, p, s, file-room)))) in
+      rw (lines-part H h, q) (omega arith)
+
+  pub file-written : (date company : List ℕ) (c : ℕ) (H L T : List ℕ)
+      → H ≡ headerWith date company c (length (take (f - 0) (drop 0 old)))
+      → L ≡ linesTo v R (slots R) ++ drop (entriesIn R * shapeOf (Data v) .line) (take (k - f - f) (drop f (headed f H old)))
+      → T ≡ trailerWith date company e (length (take (k - (k - f)) (drop (k - f) (lined f (k - f) (headed f H old) L))))
+      → closed (k - f) k (lined f (k - f) (headed f H old) L) T ≡ loadFile v R date company c ++ drop (loadSize v R) old
+  unfolding loadFile headerFor trailerFor entriesIn
+  file-written date company c H L T x y z =
+      let w : ℕ = shapeOf (Data v) .line in
+      let g : ℕ = k - f in
+      let last : k - g ≡ f = omega (arith, p, s) in
+      let back : g + f ≡ k = omega (arith, p, s) in
+      let head : H ≡ headerFor v date company c = header-put v date company c f old H p (omega (arith, p, s, file-room)) x in
+      let h : length H ≡ f = ap length head ∙ header-length v date company c ∙ sym p in
+      let ends : drop (entriesIn R * w) (take (g - f) (drop f (headed f H old))) ≡ [] =
+      rw (← q) (drop-of-length-le (take (g - f) (drop f (headed f H old))) {i = e * w} (omega (arith, lines-part H h))) in
+      let lines : L ≡ linesTo v R (slots R) =
+      y ∙ ap (λ (x : List ℕ). linesTo v R (slots R) ++ x) ends ∙ append-nil (linesTo v R (slots R)) in
+      let many : length L ≡ e * w = ap length lines ∙ lines-length v R (slots R) (omega arith) ∙ ap (λ (n : ℕ). n * w) (sym q) in
+      let l : f + length L ≡ g = omega (arith, p, s, many) in
+      let t : length (take (k - g) (drop g (lined f g (headed f H old) L))) ≡ k - g =
+      rw (lined-is f g H L old h l)
+      (part-length g (k - g) ((H ++ L) ++ drop g old)
+      (rw (length-append, length-append, length-drop) (omega (arith, h, l, file-room)))) in
+      let tail : T ≡ trailerFor v date company (entriesIn R) =
+      (rw (t, last, p) at z) ∙ ap (λ (n : ℕ). trailerFor v date company n) q in
+      let u : length T ≡ f = ap length tail ∙ trailer-length v date company (entriesIn R) ∙ sym p in
+      three-parts f g H L old h l k T (ap (λ (n : ℕ). g + n) u ∙ back) ∙ (rw (head, lines, tail, sized) refl)

@@ -9,9 +9,9 @@ use native.Mathlib.Omega.{arith}
 use lib.Dec.{leb, eqb}
 use lib.ListN.{length, drop, getD, List·getD-append}
 use lib.Seq.{drop-at}
-use borrow.Author.Tests.{eqb-false}
+use borrow.Author.Tests.{eqb-false, ne-eqb}
 use Rattle.text.specs.Text.{memberOf}
-use Rattle.text.proofs.Laws.{and-left, and-right}
+use Rattle.text.proofs.Laws.{and-left, and-right, and-false}
 use Rattle.calendar.specs.declared.Day.{Day}
 use Rattle.layout.specs.declared.frame.Header.{Header}
 use Rattle.layout.specs.declared.frame.Opened.{Opened}
@@ -19,6 +19,8 @@ use Rattle.layout.specs.declared.frame.Opened.the-variants.{Header as aHeader, 
 use Rattle.layout.specs.Fields.{numberOf}
 use Rattle.layout.specs.Frames.{onHeader}
 use Rattle.layout.specs.Counters.{givenCycle}
+use Rattle.versions.specs.declared.Version.{Version}
+use Rattle.versions.specs.declared.Version.the-variants.{One, Two}
 use Rattle.rules.specs.declared.Code.{Code}
 use Rattle.rules.specs.declared.Code.the-variants.{Insert, Change, Delete, Unlock, Migrate}
 use Rattle.rules.specs.declared.Kind.{Kind}
@@ -35,16 +37,16 @@ use Rattle.rules.specs.declared.Taken.{Taken}
 use Rattle.rules.specs.declared.Found.{Found}
 use Rattle.rules.specs.declared.Found.the-variants.{At, Nothing}
 use Rattle.rules.specs.Walks.{find, orElse, isNothing, onFound}
-use Rattle.rules.specs.Slots.{slots, goodLength, registerSound}
+use Rattle.rules.specs.Slots.{slots, slotAt, goodLength, registerSound}
 use Rattle.rules.specs.Records.{filedOf, isInsert, findNumber, findRow, freeAt, reusableAt, findFree, findReusable, findSpare, table, answerOf, Step, step, applied}
 use Rattle.rules.specs.Rows.{rowCodeOf, findClash, findVacant, findSame, insertTable, deleteTable, rowAnswerOf, RowStep, rowApplied}
-use Rattle.rules.specs.Takes.{Stores, lineFault, lineAt, linesIn, refuse, checked, lineApplied, answerAt, answersTo, after, refusedFile, appliedFile, onChecked, taken}
+use Rattle.rules.specs.Takes.{Stores, shapeOf, lineFault, lineAt, linesIn, refuse, checked, lineApplied, answerAt, answersTo, after, refusedFile, appliedFile, onChecked, taken}
 use Rattle.rules.specs.Checks.{AllForetold}
 use Rattle.rules.specs.Lookups.{isNumber, seenIn, unseen, seen, packed}
-use Rattle.rules.specs.Loads.{loadSize, loadHeader, laterAt, headerRefusal, loadRefusal, refusedLoad, writtenLoad, loaded}
-use Rattle.rules.specs.Answered.{takeNumbers, answerNumbers, loadNumbers, lookupNumbers, TakeRefused, NoneHits, TakeDone, TakeAnswered, TakesAnswer, LinesAnswer, Full, FullsAnswer, LoadAnswered, LoadsAnswer, LookupsAnswer, OneData, OneGuide, OneLoad, OneLookup}
+use Rattle.rules.specs.Loads.{isEntry, loadSize, loadHeader, laterAt, wideAt, narrowRefusal, wideSlot, headerRefusal, loadRefusal, refusedLoad, writtenLoad, loaded}
+use Rattle.rules.specs.Answered.{takeNumbers, recordNumbers, answerNumbers, loadNumbers, lookupNumbers, TakeRefused, NoneHits, TakeDone, TakeAnswered, TakesAnswer, LinesAnswer, Full, FullsAnswer, LoadAnswered, LoadsAnswer, LookupsAnswer, OneData, OneGuide, OneLoad, OneLookup}
 use Rattle.rules.specs.Answered.{ChecksAnswer, OneCheck}
-use Rattle.rules.proofs.WalkLaws.{clash-bool, find-none, find-nowhere, is-nothing, numbersIn, first-in, hitBy, first-hit, first-some}
+use Rattle.rules.proofs.WalkLaws.{clash-bool, find-some, find-none, find-nowhere, is-nothing, numbersIn, first-in, hitBy, first-hit, first-some}
 use Rattle.rules.proofs.TakeLaws.{line-not, answers-length, answer-is, done-undone}
 use Rattle.rules.proofs.CheckLaws.{all-foretold}
 use Rattle.rules.proofs.FaultLaws.{line-fault-starts}
@@ -61,15 +63,15 @@ picked number set true x y p q = p
 picked number set false x y p q = q
 
 -- a data record is answered by a number of its table
-applied-number : (R G : List ℕ) (h : Header) (r : List ℕ) → memberOf (applied R G h r .answer) (answerNumbers Data) ≡ true
+applied-number : (R G : List ℕ) (h : Header) (r : List ℕ) → memberOf (applied R G h r .answer) recordNumbers ≡ true
 unfolding applied step answerOf numbersIn
 applied-number R G h r = go (filedOf r)
   where
-    go : (f : Filed) → memberOf (step R G h r f .answer) (answerNumbers Data) ≡ true
+    go : (f : Filed) → memberOf (step R G h r f .answer) recordNumbers ≡ true
     go NoRecord = refl
     go (Record c d) =
-        picked (λ (s : Step). s .answer) (answerNumbers Data) (eqb (answerOf R G h r c d) 0) _ _ refl
-        (first-in (answerNumbers Data) (table R G h r c d (findNumber (numberOf r) R) (findRow r G) (findSpare (h .day) R)) refl refl)
+        picked (λ (s : Step). s .answer) recordNumbers (eqb (answerOf R G h r c d) 0) _ _ refl
+        (first-in recordNumbers (table R G h r c d (findNumber (numberOf r) R) (findRow r G) (findSpare (h .day) R)) refl refl)
 
 -- a row by a number of its tables
 row-number : (R G g : List ℕ) (c : RowCode) → memberOf (rowAnswerOf R G g c) (answerNumbers Guide) ≡ true
@@ -87,7 +89,7 @@ row-applied-number R G h g =
 -- a line of either kind
 line-number : (k : Kind) (h : Header) (r : List ℕ) (s : Stores) → memberOf (lineApplied k h r s .answer) (answerNumbers k) ≡ true
 unfolding lineApplied
-line-number Data h r s = applied-number (s .register) (s .guide) h r
+line-number (Data v) h r s = applied-number (s .register) (s .guide) h (shapeOf (Data v) .wide r)
 line-number Guide h r s = row-applied-number (s .register) (s .guide) h r
 
 -- DEMAND 1, of a record: it is answered by a number of its kind, and a refused one leaves both stores
@@ -147,7 +149,7 @@ full-answered R G h r c d =
     let t = table R G h r c d (findNumber (numberOf r) R) (findRow r G) (findSpare (h .day) R) in
     record {
       means = λ e. full-of R G h r c d (or-none (isFull R G h r c d) (first-hit 20 t (omega arith) e));
-      then = λ f. first-some 20 (drop 1 (answerNumbers Data)) t (rw (of-full R G h r c d f) refl) refl;
+      then = λ f. first-some 20 (drop 1 recordNumbers) t (rw (of-full R G h r c d f) refl) refl;
     }
   where
     or-none : (b : Bool) → b || false ≡ true → b ≡ true
@@ -286,36 +288,90 @@ check-answered k s f answers last =
 
 -- ---- the load file
 
--- a refusal of a load file has one of its numbers
-load-number : (R date company : List ℕ) (c room : ℕ) → memberOf (loadRefusal R date company c room) loadNumbers ≡ true
-unfolding loadRefusal headerRefusal
-load-number R date company c room =
-    picked (λ n. n) loadNumbers (registerSound R) _ _ (opened (loadHeader date company c)) refl
+-- P is so of a refusal of a load file, if it is so of each number; of 27, where the lowest entry is given that does not fit
+load-by : (P : ℕ → Type 0) (v : Version) (R date company : List ℕ) (c room : ℕ) → P 0 → P 1 → P 25 → P 26
+    → ((i : ℕ) → find (wideAt v R) (slots R) ≡ At i → P 27) → P (loadRefusal v R date company c room)
+unfolding loadRefusal headerRefusal narrowRefusal
+load-by P v R date company c room p0 p1 p25 p26 p27 = sound (registerSound R)
   where
-    found : (o : Found) → memberOf (onFound o (cond (leb (loadSize R) room) 0 25) (λ i. 26)) loadNumbers ≡ true
-    found Nothing = picked (λ n. n) loadNumbers (leb (loadSize R) room) _ _ refl refl
-    found (At i) = refl
+    long : (b : Bool) → P (cond b 0 25)
+    long true = p0
+    long false = p25
 
-    opened : (o : Opened)
-        → memberOf (onHeader o 26 (λ h. onFound (find (laterAt (h .day) R) (slots R)) (cond (leb (loadSize R) room) 0 25) (λ i. 26))) loadNumbers ≡ true
-    opened noHeader = refl
+    fits : (o : Found) → find (wideAt v R) (slots R) ≡ o → P (onFound o (cond (leb (loadSize v R) room) 0 25) (λ i. 27))
+    fits Nothing q = long (leb (loadSize v R) room)
+    fits (At i) q = p27 i q
+
+    found : (o : Found) → P (onFound o (narrowRefusal v R room) (λ i. 26))
+    found Nothing = fits (find (wideAt v R) (slots R)) refl
+    found (At i) = p26
+
+    opened : (o : Opened) → P (onHeader o 26 (λ h. onFound (find (laterAt (h .day) R) (slots R)) (narrowRefusal v R room) (λ i. 26)))
+    opened noHeader = p26
     opened (aHeader h) = found (find (laterAt (h .day) R) (slots R))
+
+    sound : (b : Bool) → P (cond b (headerRefusal v R date company c room) 1)
+    sound true = opened (loadHeader v date company c)
+    sound false = p1
+
+-- every record fits in Version 2
+two-fits : (R : List ℕ) (i : ℕ) → wideAt Two R i ≡ false
+unfolding wideAt
+two-fits R i = and-false (isEntry (slotAt R i))
+
+-- a refusal of a load file has one of its numbers
+load-number : (v : Version) (R date company : List ℕ) (c room : ℕ) → memberOf (loadRefusal v R date company c room) (loadNumbers v) ≡ true
+load-number One R date company c room =
+    load-by (λ n. memberOf n (loadNumbers One) ≡ true) One R date company c room refl refl refl refl (λ i e. refl)
+load-number Two R date company c room =
+    load-by (λ n. memberOf n (loadNumbers Two) ≡ true) Two R date company c room refl refl refl refl (λ i e.
+    clash-bool (find-some (wideAt Two R) (slots R) i e .1) (two-fits R i))
+
+-- 27 has the slot of that entry, and no other refusal has one
+wide-slot : (v : Version) (R : List ℕ) (i : ℕ) → find (wideAt v R) (slots R) ≡ At i → wideSlot v R 27 ≡ i
+unfolding wideSlot
+wide-slot v R i e = rw e refl
+
+no-slot : (v : Version) (R : List ℕ) (n : ℕ) → n ≢ 27 → wideSlot v R n ≡ 0
+unfolding wideSlot
+no-slot v R n e = rw (ne-eqb n 27 e) refl
+
+load-slot : (v : Version) (R date company : List ℕ) (c room : ℕ) → loadRefusal v R date company c room ≡ 27
+    → find (wideAt v R) (slots R) ≡ At (wideSlot v R (loadRefusal v R date company c room))
+load-slot v R date company c room =
+    load-by (λ n. n ≡ 27 → find (wideAt v R) (slots R) ≡ At (wideSlot v R n)) v R date company c room
+    (λ e. absurd (omega arith)) (λ e. absurd (omega arith)) (λ e. absurd (omega arith)) (λ e. absurd (omega arith))
+    (λ i f e. f ∙ ap At (sym (wide-slot v R i f)))
 
 -- DEMAND 1, of a load file: it is written whole, or refused with nothing written
 pub load-answered : LoadsAnswer
 unfolding LoadsAnswer loaded loadSize
-load-answered R date company c out = go (eqb (loadRefusal R date company c (length out)) 0) refl
+load-answered v R date company c out = go (eqb (loadRefusal v R date company c (length out)) 0) refl
   where
-    go : (b : Bool) → eqb (loadRefusal R date company c (length out)) 0 ≡ b
-        → LoadAnswered out (cond b (writtenLoad R date company c out) (refusedLoad (loadRefusal R date company c (length out)) out))
+    go : (b : Bool) → eqb (loadRefusal v R date company c (length out)) 0 ≡ b
+        → LoadAnswered v R out
+        (cond b (writtenLoad v R date company c out) (refusedLoad v R (loadRefusal v R date company c (length out)) out))
     go true q =
-        record { number = refl; refused = λ x. absurd (x refl); sized = λ x. refl; rest = load-rest R date company c out }
+        record {
+          number = load-none v;
+          refused = λ x. absurd (x refl);
+          sized = λ x. refl;
+          rest = load-rest v R date company c out;
+          wide = λ x. absurd (omega arith);
+          none = λ x. refl;
+        }
+      where
+        load-none : (v : Version) → memberOf 0 (loadNumbers v) ≡ true
+        load-none One = refl
+        load-none Two = refl
     go false q =
         record {
-          number = load-number R date company c (length out);
+          number = load-number v R date company c (length out);
           refused = λ x. (refl, (refl, refl));
-          sized = λ x. absurd (eqb-false (loadRefusal R date company c (length out)) 0 q x);
+          sized = λ x. absurd (eqb-false (loadRefusal v R date company c (length out)) 0 q x);
           rest = refl;
+          wide = load-slot v R date company c (length out);
+          none = no-slot v R (loadRefusal v R date company c (length out));
         }
 
 -- ---- lookup
@@ -357,7 +413,7 @@ one-take p q = (p .0 ∙ sym (q .0), (p .1 .0 ∙ sym (q .1 .0), p .1 .1 ∙ sym
 -- so the promise of each take admits one outcome,
 pub one-data : OneData
 unfolding OneData
-one-data R G f answers last t u S T a b p q = one-take p q
+one-data v R G f answers last t u S T a b p q = one-take p q
 
 pub one-guide : OneGuide
 unfolding OneGuide
@@ -370,7 +426,7 @@ one-check k R G f answers last t u p q = p ∙ sym q
 
 pub one-load : OneLoad
 unfolding OneLoad
-one-load R date company c out l m a b p q = (p .0 ∙ sym (q .0), p .1 ∙ sym (q .1))
+one-load v R date company c out l m a b p q = (p .0 ∙ sym (q .0), p .1 ∙ sym (q .1))
 
 pub one-lookup : OneLookup
 unfolding OneLookup

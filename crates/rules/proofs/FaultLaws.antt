@@ -12,12 +12,13 @@ use Rattle.text.specs.declared.Spelled.{Spelled}
 use Rattle.text.specs.declared.Spelled.the-variants.{Number, NoNumber}
 use Rattle.text.specs.Text.{part, onNumber, memberOf}
 use Rattle.text.proofs.Laws.{and-left, and-right, or-right}
-use Rattle.layout.specs.Tables.{dataRecord, guideRow, house, lowEnd, highEnd, parityLetter}
+use Rattle.layout.specs.Tables.{guideRow, house, lowEnd, highEnd, parityLetter}
 use Rattle.layout.specs.Fields.{functionOf, houseIn, endIn, lowOf, highOf, parityOf, allows}
 use Rattle.layout.specs.Rules.{keeps, houseFault, endFault, highFault, parityFault, isWhole, faultBy, fromZero, faultIn, isLax, recordFault, rowFault}
+use Rattle.versions.specs.declared.Version.the-variants.{One, Two}
 use Rattle.rules.specs.declared.Kind.{Kind}
 use Rattle.rules.specs.declared.Kind.the-variants.{Data, Guide}
-use Rattle.rules.specs.Takes.{lineTable, lineFault}
+use Rattle.rules.specs.Takes.{shapeOf, lineFault}
 use Rattle.rules.specs.Answered.{startsIn}
 use Rattle.rules.proofs.WalkLaws.{clash-bool}
 
@@ -64,18 +65,18 @@ module _ (P : ℕ → Type 0) where
   fault-in lax s (x ∷ y ∷ []) z p = z
 
   -- of a data record, and of a guide row
-  pub line-fault : (k : Kind) (s : List ℕ) → P 0 → ((at : ℕ) → memberOf at (startsIn (lineTable k)) ≡ true → P at)
+  pub line-fault : (k : Kind) (s : List ℕ) → P 0 → ((at : ℕ) → memberOf at (startsIn (shapeOf k .table)) ≡ true → P at)
       → P (lineFault k s)
   unfolding recordFault rowFault
-  line-fault Data s z p = fault-in (isLax (functionOf s)) s dataRecord z p
+  line-fault (Data v) s z p = fault-in (isLax (functionOf s)) s (shapeOf (Data v) .table) z p
   line-fault Guide s z p = fault-in false s guideRow z p
 
 -- ---- of a line
 
 -- a line that breaks a field rule does so in a field of its table
-pub line-fault-starts : (k : Kind) (s : List ℕ) → lineFault k s ≢ 0 → memberOf (lineFault k s) (startsIn (lineTable k)) ≡ true
+pub line-fault-starts : (k : Kind) (s : List ℕ) → lineFault k s ≢ 0 → memberOf (lineFault k s) (startsIn (shapeOf k .table)) ≡ true
 line-fault-starts k s n =
-    line-fault (λ v. v ≢ 0 → memberOf v (startsIn (lineTable k)) ≡ true) k s (λ z. absurd (z refl)) (λ at e z. e) n
+    line-fault (λ v. v ≢ 0 → memberOf v (startsIn (shapeOf k .table)) ≡ true) k s (λ z. absurd (z refl)) (λ at e z. e) n
 
 -- each number of a list is at most m
 abbrev allUpTo : ℕ → List ℕ → Bool
@@ -93,8 +94,9 @@ member-le m (b ∷ l) h a e = go (member-le m l (and-right (leb b m) (allUpTo m 
 
 -- the last field of either table starts at 512 or before
 pub line-fault-le : (k : Kind) (s : List ℕ) → lineFault k s ≤ 512
-line-fault-le k s = line-fault (λ v. v ≤ 512) k s (omega arith) (member-le 512 (startsIn (lineTable k)) (all k))
+line-fault-le k s = line-fault (λ v. v ≤ 512) k s (omega arith) (member-le 512 (startsIn (shapeOf k .table)) (all k))
   where
-    all : (k : Kind) → allUpTo 512 (startsIn (lineTable k)) ≡ true
-    all Data = refl
+    all : (k : Kind) → allUpTo 512 (startsIn (shapeOf k .table)) ≡ true
+    all (Data One) = refl
+    all (Data Two) = refl
     all Guide = refl

@@ -5,6 +5,7 @@ use mathlib.Core.Logic.{_≢_}
 use mathlib.Core.Bool.{Bool, true, false, _&&_, not, cond}
 use mathlib.Core.List.{List}
 use Prim.Native.Nat.{ℕ, _+_, _*_, _-_, _/_, _%_, _≤_, _<_}
+use native.Mathlib.Nat.{mul-le-mul-right, suc-mul, div-add-mod'}
 use native.Mathlib.Omega.{arith}
 use lib.Dec.{leb, eqb}
 use lib.ListN.{length}
@@ -17,11 +18,10 @@ use Rattle.layout.specs.declared.frame.Opened.{Opened}
 use Rattle.layout.specs.declared.frame.Opened.the-variants.{Header as aHeader, Wrong as noHeader}
 use Rattle.layout.specs.declared.frame.Closed.{Closed}
 use Rattle.layout.specs.declared.frame.Closed.the-variants.{Trailer as aTrailer, Wrong as noTrailer}
-use Rattle.layout.specs.Tables.{header, trailer}
+use Rattle.layout.specs.Tables.{headerTable, trailerTable}
 use Rattle.layout.specs.Counters.{isNextOf, isCount}
 use Rattle.layout.specs.Frames.{headerOf, trailerOf, onHeader, onTrailer}
 use Rattle.rules.specs.declared.Kind.{Kind}
-use Rattle.rules.specs.declared.Kind.the-variants.{Data, Guide}
 use Rattle.rules.specs.declared.Found.{Found}
 use Rattle.rules.specs.declared.Found.the-variants.{At, Nothing}
 use Rattle.rules.specs.declared.Checked.{Checked}
@@ -29,7 +29,7 @@ use Rattle.rules.specs.declared.Checked.the-variants.{Good, Refused}
 use Rattle.rules.specs.Walks.{find, onFound}
 use Rattle.rules.specs.Slots.{registerSound, guideSound}
 use Rattle.rules.specs.Answered.{NoneHits}
-use Rattle.rules.specs.Takes.{Stores, lineSize, lineFault, linesIn, goodFile, headerLine, trailerLine, lineAt, refuse, badLine, linesChecked, trailerChecked, frameChecked, checked}
+use Rattle.rules.specs.Takes.{Stores, shapeOf, edges, lineFault, linesIn, goodFile, headerLine, trailerLine, lineAt, refuse, badLine, linesChecked, trailerChecked, frameChecked, checked}
 use Rattle.rules.proofs.WalkLaws.{find-some, find-none, find-nowhere, not-false, not-true}
 use Rattle.rules.proofs.PlaceLaws.{part-length}
 
@@ -97,9 +97,9 @@ checked-by P k s f room last p1 p2 p3 p4 p5 p6 p7 p8 p9 p0 =
     on-test P (guideSound (s .guide)) _ _ (λ b.
     on-test P (goodFile k f) _ _ (λ c.
     on-test P (leb (linesIn k f) room) _ _ (λ d.
-    on-header P (headerOf header (headerLine f)) _ _ p5 (λ h head.
+    on-header P (headerOf (headerTable (shapeOf k .frame)) (headerLine k f)) _ _ p5 (λ h head.
     on-test P (isNextOf last (h .cycle)) _ _ (λ e.
-    on-trailer P (trailerOf trailer (headerLine f) (trailerLine f)) _ _ p7 (λ n tail.
+    on-trailer P (trailerOf (trailerTable (shapeOf k .frame)) (headerLine k f) (trailerLine k f)) _ _ p7 (λ n tail.
     on-test P (isCount n (linesIn k f)) _ _ (λ g.
     on-found P (find (badLine k f) (linesIn k f)) _ _
     (λ o.
@@ -167,25 +167,21 @@ pub good-room : (k : Kind) (s : Stores) (f : List ℕ) (room : ℕ) (last : Cycl
 good-room k s f room last h e = good-passed k s f room last h e .fits
 
 -- a file of good length has header, whole lines and trailer
-pub file-long : (k : Kind) (f : List ℕ) → goodFile k f ≡ true → length f ≡ 400 + linesIn k f * lineSize k
+pub file-long : (k : Kind) (f : List ℕ) → goodFile k f ≡ true → length f ≡ edges k + linesIn k f * shapeOf k .line
 unfolding goodFile linesIn
-file-long Data f e =
-    let a = leb 400 (length f) in
-    let b = eqb ((length f - 400) % 512) 0 in
-    let c = leb ((length f - 400) / 512) 9999 in
-    let p = leb-true 400 (length f) (and-left a (b && c) e) in
-    let q = eqb-true ((length f - 400) % 512) 0 (and-left b c (and-right a (b && c) e)) in
-    omega arith
-file-long Guide f e =
-    let a = leb 400 (length f) in
-    let b = eqb ((length f - 400) % 200) 0 in
-    let c = leb ((length f - 400) / 200) 9999 in
-    let p = leb-true 400 (length f) (and-left a (b && c) e) in
-    let q = eqb-true ((length f - 400) % 200) 0 (and-left b c (and-right a (b && c) e)) in
-    omega arith
+file-long k f e =
+    let n : ℕ = length f - edges k in
+    let l : ℕ = shapeOf k .line in
+    let a = leb (edges k) (length f) in
+    let b = eqb (n % l) 0 in
+    let c = leb (n / l) 9999 in
+    let p = leb-true (edges k) (length f) (and-left a (b && c) e) in
+    let q = eqb-true (n % l) 0 (and-left b c (and-right a (b && c) e)) in
+    omega (arith, div-add-mod' n l)
 
 -- so each line is whole
-pub line-long : (k : Kind) (f : List ℕ) (i : ℕ) → goodFile k f ≡ true → i < linesIn k f → length (lineAt k f i) ≡ lineSize k
+pub line-long : (k : Kind) (f : List ℕ) (i : ℕ) → goodFile k f ≡ true → i < linesIn k f → length (lineAt k f i) ≡ shapeOf k .line
 unfolding lineAt
-line-long Data f i e h = part-length (200 + i * 512) 512 f (omega (arith, file-long Data f e))
-line-long Guide f i e h = part-length (200 + i * 200) 200 f (omega (arith, file-long Guide f e))
+line-long k f i e h =
+    let l : ℕ = shapeOf k .line in
+    part-length (shapeOf k .frame + i * l) l f (omega (arith, file-long k f e, mul-le-mul-right l h, suc-mul i l))

@@ -15,6 +15,7 @@ use Rattle.text.specs.Text.{onNumber}
 use Rattle.layout.specs.declared.frame.Header.{Header}
 use Rattle.layout.specs.Counters.{givenCycle}
 use Rattle.layout.specs.Fields.{houseOf, streetOf, placeOf}
+use Rattle.rules.proofs.WideLaws.{wide-whole}
 use Rattle.rules.specs.declared.Kind.{Kind}
 use Rattle.rules.specs.declared.Kind.the-variants.{Data, Guide}
 use Rattle.rules.specs.declared.Code.{Code}
@@ -25,7 +26,7 @@ use Rattle.rules.specs.Slots.{slots, slotAt, stateOf, recordOf, isHeld, 
 use Rattle.rules.specs.Covers.{over, covers}
 use Rattle.rules.specs.Records.{applied, stores, shown}
 use Rattle.rules.specs.Rows.{rowCodeOf, rowApplied}
-use Rattle.rules.specs.Takes.{Stores, lineSize, linesIn, goodFile, lineAt, checked, lineApplied, after, answerAt}
+use Rattle.rules.specs.Takes.{Stores, shapeOf, linesIn, goodFile, lineAt, checked, lineApplied, after, answerAt}
 use Rattle.rules.specs.History.{Item, row, itemOf, historyTo}
 use Rattle.rules.specs.Demands.{File, Office, start, taking, run, presentAt, OneSlot, OneRow, AllLie, StoresKept, isUnlock, newest, lastOf, isThere, lastIs, tally, AllLast, Exactly, Counted, HistoryKept, Sized, Demand3}
 use Rattle.rules.proofs.WalkLaws.{clash-bool}
@@ -56,11 +57,13 @@ abbrev office : Stores → List Item → Office
 office s past = record { stores = s; history = past }
 
 -- by a line that is answered 0
-keep-line : {n m : ℕ} (k : Kind) (h : Header) (l : List ℕ) (s : Stores) (past : List Item) → length l ≡ lineSize k
+keep-line : {n m : ℕ} (k : Kind) (h : Header) (l : List ℕ) (s : Stores) (past : List Item) → length l ≡ shapeOf k .line
     → lineApplied k h l s .answer ≡ 0 → Kept n m (office s past)
     → Kept n m (office (lineApplied k h l s .stores) (itemOf k l ∷ past))
 unfolding lineApplied
-keep-line Data h r s past w e p =
+keep-line (Data v) h l s past x e p =
+    let r = shapeOf (Data v) .wide l in
+    let w = wide-whole v l x in
     let R = s .register in
     let G = s .guide in
     let S = applied R G h r .register in

@@ -23,6 +23,7 @@ use Rattle.layout.specs.Counters.{givenCycle}
 use Rattle.layout.specs.Tables.{dataRecord, guideRow, field, date}
 use Rattle.layout.specs.Fields.{functionOf, dateOf, dateBy, rowFunctionOf}
 use Rattle.layout.specs.Rules.{recordFault, rowFault}
+use Rattle.rules.proofs.WideLaws.{wide-whole, wide-good}
 use Rattle.rules.specs.declared.Kind.{Kind}
 use Rattle.rules.specs.declared.Kind.the-variants.{Data, Guide}
 use Rattle.rules.specs.declared.Code.{Code}
@@ -37,7 +38,7 @@ use Rattle.rules.specs.Walks.{find, isNothing}
 use Rattle.rules.specs.Slots.{place, goodLength, slots, slotAt, stateOf, slotDay, recordOf, slotOf, isFree, isHeld, isUsed, isZero, isEntryCode, fitsSlot, dayFits, usedSound, slotSound, slotSoundBy, unsoundSlot, registerSound, unsoundBy, registerSoundBy, rowSlots, rowSlotAt, withRowSlot, isPresent, isVacant, rowOf, rowSlotOf, freeRowSlot, presentSound, rowSlotSound, unsoundRowSlot, guideSound}
 use Rattle.rules.specs.Records.{codedOf, filedOf, stores, stateAfter, shown, applied}
 use Rattle.rules.specs.Rows.{rowCodeOf, rowApplied}
-use Rattle.rules.specs.Takes.{Stores, lineSize, lineFault, linesIn, lineAt, checked, refusedFile, lineApplied, after, answerAt, appliedFile, taken}
+use Rattle.rules.specs.Takes.{Stores, shapeOf, lineFault, linesIn, lineAt, checked, refusedFile, lineApplied, after, answerAt, appliedFile, taken}
 use Rattle.rules.specs.Demands.{File, Office, start, taking, run, presentAt, SoundStores, NoneUnsound}
 use Rattle.rules.proofs.WalkLaws.{clash-bool, not-false, not-true, find-none, find-nowhere, is-nothing}
 use Rattle.rules.proofs.SlotLaws.{Whole, WholeRow, state-slot, day-slot, record-slot, present-row, row-slot, length-row-slot, length-free, whole-row-at, zero-zeros, zero-row-sound, empty-sound, empty-guide-sound}
@@ -362,10 +363,13 @@ module _ (R G g : List ℕ) (c : RowCode) (K : List ℕ) (w : WholeRow g) (coded
 -- ---- over a line, a file, a run
 
 -- a line that keeps the field rules and is answered 0
-sound-line : (k : Kind) (h : Header) (l : List ℕ) (s : Stores) → length l ≡ lineSize k → lineFault k l ≡ 0
+sound-line : (k : Kind) (h : Header) (l : List ℕ) (s : Stores) → length l ≡ shapeOf k .line → lineFault k l ≡ 0
     → lineApplied k h l s .answer ≡ 0 → SoundStores s → SoundStores (lineApplied k h l s .stores)
 unfolding lineApplied
-sound-line Data h r s w g e p =
+sound-line (Data v) h l s x y e p =
+    let r = shapeOf (Data v) .wide l in
+    let w = wide-whole v l x in
+    let g = wide-good v l x y in
     let R = s .register in
     let G = s .guide in
     let a = accepted R G h r e in

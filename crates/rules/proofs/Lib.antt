@@ -14,6 +14,7 @@ pub mod Answers
 pub mod KeepStores
 pub mod KeepHistory
 pub mod Passing
+pub mod WideLaws
 pub mod Keep
 pub mod SoundLaws
 pub mod KeepSound

@@ -3,7 +3,7 @@ use mathlib.Core.Path.{_≡_, refl, sym, ap, _∙_}
 use mathlib.Core.Logic.{_≢_}
 use mathlib.Core.Bool.{Bool, true, false, not, _&&_, _||_}
 use mathlib.Core.List.{List, [], _∷_, _++_}
-use Prim.Native.Nat.{ℕ, _+_, _-_, _≤_, _<_}
+use Prim.Native.Nat.{ℕ, zero, suc, _+_, _-_, _≤_, _<_}
 use native.Mathlib.Numerals.{add-one}
 use native.Mathlib.Omega.{arith}
 use lib.Dec.{leb, ltb, eqb}
@@ -13,10 +13,17 @@ use borrow.Author.Tests.{eqb-true, leb-true, ltb-true}
 use Rattle.text.specs.Text.{blank, part, putAt}
 use Rattle.text.proofs.Laws.{and-left, and-right}
 use Rattle.calendar.specs.Calendar.{dayOf}
-use Rattle.layout.specs.Tables.{dataRecord, startOf, sizeOf, field, span, function, npa, callingNumber, houseNumber, prefix, post, community, state, esn, date, source, code, spaceOrC}
+use Rattle.layout.specs.Tables.{dataRecord, narrowRecord, startOf, sizeOf, field, span, function, npa, callingNumber, houseNumber, prefix, post, community, state, esn, date, source, code, spaceOrC}
 use Rattle.layout.specs.Fields.{functionOf, numberOf, houseIn, houseOf, streetOf, placeOf, esnOf, hasEsn, dateOf, forLoad}
-use Rattle.layout.specs.Rules.{keeps, keepsOther, isWhole, faultBy, fromZero, isLax, recordFault}
+use Rattle.layout.specs.Rules.{keeps, keepsOther, isWhole, faultBy, fromZero, faultIn, isLax, recordFault}
 use Rattle.rules.specs.Slots.{rowSlots, rowSlotAt, isPresent, rowOf}
+use Rattle.versions.specs.declared.Version.{Version}
+use Rattle.versions.specs.declared.Version.the-variants.{One, Two}
+use Rattle.versions.specs.Versions.{allTo, widened, narrowed, narrows, tailBlank, narrowOf, fitsIn}
+use Rattle.versions.proofs.TableLaws.{all-to}
+use Rattle.versions.proofs.VersionLaws.{wide-narrow, narrow-length, narrow-fault, function-wide}
+use Rattle.rules.specs.declared.Kind.the-variants.{Data}
+use Rattle.rules.specs.Takes.{shapeOf, lineFault}
 use Rattle.rules.specs.Covers.{covers}
 use Rattle.rules.specs.Records.{isOver, findRow}
 use Rattle.rules.proofs.WalkLaws.{find-same}
@@ -199,3 +206,45 @@ module _ (r : List ℕ) (k : Whole r) where
   pub fault-load : isLax (functionOf r) ≡ false → recordFault dataRecord r ≡ 0 → recordFault dataRecord (forLoad r) ≡ 0
   unfolding recordFault
   fault-load l e = rw (function-load r k) (fields-keep fieldLoads false r (forLoad r) field-loads dataRecord refl (rw l at e))
+
+-- ---- either version
+
+-- what is behind the bytes that Version 1 has of a field is clear of both
+abbrev tailClear : ℕ → Bool
+tailClear k = clearOfBoth (startOf dataRecord k + sizeOf narrowRecord k) (sizeOf dataRecord k - sizeOf narrowRecord k)
+
+tails-clear : allTo tailClear 37 ≡ true
+tails-clear = refl
+
+all-by : (p q : ℕ → Bool) (n : ℕ) → ((k : ℕ) → k < n → q k ≡ p k) → allTo p n ≡ true → allTo q n ≡ true
+all-by p q zero f h = refl
+all-by p q (suc n) f h =
+    rw (all-by p q n (λ k l. f k (omega arith)) (and-left (allTo p n) (p n) h), f n (omega arith)) (and-right (allTo p n) (p n) h)
+
+-- so a record with nothing more in it has nothing more as it is loaded
+pub fits-load : (v : Version) (r : List ℕ) → Whole r → fitsIn v r ≡ true → fitsIn v (forLoad r) ≡ true
+unfolding narrows tailBlank
+fits-load Two r w h = refl
+fits-load One r w h =
+    all-by (tailBlank r) (tailBlank (forLoad r)) 37
+    (λ k l. ap blank (part-load r w (startOf dataRecord k + sizeOf narrowRecord k) (sizeOf dataRecord k - sizeOf narrowRecord k)
+    (all-to tailClear 37 k tails-clear l))) h
+
+-- as it stands in the file it is widened to itself
+pub wide-load : (v : Version) (r : List ℕ) → Whole r → fitsIn v r ≡ true → shapeOf (Data v) .wide (narrowOf v (forLoad r)) ≡ forLoad r
+wide-load Two r w h = refl
+wide-load One r w h = wide-narrow (forLoad r) (whole-load r w) (fits-load One r w h)
+
+-- and keeps the rules of its version
+pub good-load : (v : Version) (r : List ℕ) → Whole r → fitsIn v r ≡ true → isLax (functionOf r) ≡ false → recordFault dataRecord r ≡ 0
+    → lineFault (Data v) (narrowOf v (forLoad r)) ≡ 0
+unfolding recordFault
+good-load Two r w h l e = fault-load r w l e
+good-load One r w h l e =
+    let s = forLoad r in
+    let n = narrowed s in
+    let i : widened n ≡ s = wide-load One r w h in
+    let f : functionOf n ≡ 73 = sym (function-wide n (narrow-length s)) ∙ ap functionOf i ∙ function-load r w in
+    let g : faultIn (isLax (functionOf s)) s dataRecord ≡ 0 = fault-load r w l e in
+    let j : isLax (functionOf n) ≡ isLax (functionOf s) = rw (f, function-load r w) refl in
+    rw j (narrow-fault (isLax (functionOf s)) n (narrow-length s) f (rw i g))

@@ -93,8 +93,8 @@ module _ (k : Kind) (s m : Stores) (f answers : List ℕ) (last : ℕ) (h : Head
       record {
         only = λ now. none-or-six now (isNextOf (givenCycle now) (h .cycle)) refl;
         applied = not-refused last (p .next);
-        overtaken = λ t g a x.
-            let (i, d) = take-answered k t g a last .done x in
+        overtaken = λ j t g a x.
+            let (i, d) = take-answered j t g a last .done x in
             by-six _ (not-own-next _ _ (d .last ∙ one-next (givenCycle last) (i .cycle) (h .cycle) (d .passed .next) (p .next)));
       }
 

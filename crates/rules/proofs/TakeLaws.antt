@@ -1,6 +1,6 @@
 -- Taking a file: what is not accepted leaves everything as it is; there is one answer for each line, and the history has the lines
 -- answered 0. Assumes nothing.
-use mathlib.Core.Path.{_≡_, refl, subst, _∙_}
+use mathlib.Core.Path.{_≡_, refl, ap, subst, _∙_}
 use mathlib.Core.Logic.{_≢_}
 use mathlib.Core.Bool.{Bool, true, false, cond}
 use mathlib.Core.List.{List, [], _∷_, _++_}
@@ -26,7 +26,7 @@ use Rattle.rules.specs.declared.Checked.{Checked}
 use Rattle.rules.specs.declared.Checked.the-variants.{Good, Refused}
 use Rattle.rules.specs.Records.{filedOf, answerOf, registerAfter, Step, step, applied}
 use Rattle.rules.specs.Rows.{rowCodeOf, rowAnswerOf, guideAfter, rowApplied}
-use Rattle.rules.specs.Takes.{Stores, lineAt, linesIn, checked, lineApplied, after, answerAt, answersTo, zerosIn, othersIn, refusedFile, appliedFile, taken}
+use Rattle.rules.specs.Takes.{shapeOf, Stores, lineAt, linesIn, checked, lineApplied, after, answerAt, answersTo, zerosIn, othersIn, refusedFile, appliedFile, taken}
 use Rattle.rules.proofs.View.{Took, took, RowTook, row-took}
 use Rattle.rules.proofs.GoodLaws.{checked-by}
 use Rattle.rules.specs.History.{Item, itemOf, historyTo, historyAfter}
@@ -117,7 +117,8 @@ row-accepted-took R G h g e =
 -- a line whose answer is not 0 leaves both stores
 pub line-not : (k : Kind) (h : Header) (l : List ℕ) (s : Stores) → lineApplied k h l s .answer ≢ 0 → lineApplied k h l s .stores ≡ s
 unfolding lineApplied
-line-not Data h l s n = rw (applied-not (s .register) (s .guide) h l n)
+line-not (Data v) h l s n =
+    ap (λ (R : List ℕ). record { register = R; guide = s .guide }) (applied-not (s .register) (s .guide) h (shapeOf (Data v) .wide l) n)
 line-not Guide h l s n = rw (row-applied-not (s .register) (s .guide) h l n)
 
 -- so the stores after it are those before it

@@ -17,23 +17,26 @@ use Rattle.layout.specs.declared.counter.Count.{Count}
 use Rattle.layout.specs.declared.frame.Header.{Header}
 use Rattle.layout.specs.declared.frame.Opened.the-variants.{Header as aHeader}
 use Rattle.layout.specs.declared.frame.Closed.the-variants.{Trailer as aTrailer}
-use Rattle.layout.specs.Tables.{header, trailer}
+use Rattle.layout.specs.Tables.{headerTable, trailerTable}
 use Rattle.layout.specs.Counters.{givenCycle, isNextOf, isCount}
 use Rattle.layout.specs.Fields.{numberOf}
 use Rattle.layout.specs.Frames.{headerOf, trailerOf}
+use Rattle.versions.specs.declared.Version.{Version}
+use Rattle.versions.specs.declared.Version.the-variants.{One, Two}
 use Rattle.rules.specs.declared.Code.{Code}
 use Rattle.rules.specs.declared.Code.the-variants.{Insert}
-use Rattle.rules.specs.declared.Found.the-variants.{Nothing}
+use Rattle.rules.specs.declared.Found.the-variants.{Nothing, At}
 use Rattle.rules.specs.declared.Kind.{Kind}
 use Rattle.rules.specs.declared.Kind.the-variants.{Data, Guide}
 use Rattle.rules.specs.declared.Taken.{Taken}
 use Rattle.rules.specs.declared.Loaded.{Loaded}
+use Rattle.rules.specs.Walks.{find}
 use Rattle.rules.specs.Slots.{slots, slotAt, stateOf, isFree, registerSound, guideSound}
 use Rattle.rules.specs.Records.{findNumber, isReusable, answerOf}
-use Rattle.rules.specs.Takes.{Stores, Outcome, Answered, lineTable, lineFault, linesIn, goodFile, headerLine, trailerLine, lineAt, lineApplied, answerAt, taken, TakesData, TakesGuide}
+use Rattle.rules.specs.Takes.{Stores, Outcome, Answered, shapeOf, edges, lineFault, linesIn, goodFile, headerLine, trailerLine, lineAt, lineApplied, answerAt, taken, TakesData, TakesGuide}
 use Rattle.rules.specs.Checks.{foretold, Checks}
 use Rattle.rules.specs.Lookups.{seen, packed, LooksUp}
-use Rattle.rules.specs.Loads.{Load, loaded, WritesLoad}
+use Rattle.rules.specs.Loads.{Load, wideAt, loaded, WritesLoad}
 use Rattle.rules.specs.Demands.{File, Office, run}
 
 -- ---- the numbers
@@ -41,12 +44,16 @@ use Rattle.rules.specs.Demands.{File, Office, run}
 abbrev pub takeNumbers : List ℕ
 takeNumbers = 0 ∷ 1 ∷ 2 ∷ 3 ∷ 4 ∷ 5 ∷ 6 ∷ 7 ∷ 8 ∷ 9 ∷ []
 
+abbrev pub recordNumbers : List ℕ
+recordNumbers = 0 ∷ 11 ∷ 12 ∷ 13 ∷ 14 ∷ 15 ∷ 16 ∷ 17 ∷ 18 ∷ 19 ∷ 20 ∷ []
+
 abbrev pub answerNumbers : Kind → List ℕ
-answerNumbers Data = 0 ∷ 11 ∷ 12 ∷ 13 ∷ 14 ∷ 15 ∷ 16 ∷ 17 ∷ 18 ∷ 19 ∷ 20 ∷ []
+answerNumbers (Data v) = recordNumbers
 answerNumbers Guide = 0 ∷ 21 ∷ 22 ∷ 23 ∷ 24 ∷ []
 
-abbrev pub loadNumbers : List ℕ
-loadNumbers = 0 ∷ 1 ∷ 25 ∷ 26 ∷ []
+abbrev pub loadNumbers : Version → List ℕ
+loadNumbers One = 0 ∷ 1 ∷ 25 ∷ 26 ∷ 27 ∷ []
+loadNumbers Two = 0 ∷ 1 ∷ 25 ∷ 26 ∷ []
 
 abbrev pub lookupNumbers : List ℕ
 lookupNumbers = 0 ∷ 1 ∷ 10 ∷ []
@@ -75,10 +82,10 @@ pub record NoneHits (k : Kind) (s : Stores) (f : List ℕ) (room : ℕ) (last : 
   pub guide : guideSound (s .guide) ≡ true
   pub long : goodFile k f ≡ true
   pub fits : linesIn k f ≤ room
-  pub head : headerOf header (headerLine f) ≡ aHeader h
+  pub head : headerOf (headerTable (shapeOf k .frame)) (headerLine k f) ≡ aHeader h
   pub next : isNextOf last (h .cycle) ≡ true
   pub count : Count
-  pub tail : trailerOf trailer (headerLine f) (trailerLine f) ≡ aTrailer count
+  pub tail : trailerOf (trailerTable (shapeOf k .frame)) (headerLine k f) (trailerLine k f) ≡ aTrailer count
   pub counted : isCount count (linesIn k f) ≡ true
   pub lines : (i : ℕ) → i < linesIn k f → lineFault k (lineAt k f i) ≡ 0
 
@@ -97,7 +104,7 @@ pub record TakeDone (k : Kind) (s : Stores) (f answers : List ℕ) (given : ℕ)
 pub record Placed (k : Kind) (f : List ℕ) (t : Taken) : Type 0 where
   pub from : 1 ≤ t .place
   pub to : t .place ≤ linesIn k f
-  pub field : memberOf (t .position) (startsIn (lineTable k)) ≡ true
+  pub field : memberOf (t .position) (startsIn (shapeOf k .table)) ≡ true
 
 -- a take is refused by a number of the table, or done; it is done exactly where none of the nine tests hits
 pub record TakeAnswered (k : Kind) (s : Stores) (f answers : List ℕ) (last : ℕ) (o : Outcome) : Type 0 where
@@ -133,15 +140,15 @@ ChecksAnswer =
     (k : Kind) (s : Stores) (f answers : List ℕ) (last : ℕ) → CheckAnswered k s f answers last (foretold k s f answers last)
 
 -- "a file checked the evening before and applied after breakfast": m are the stores of the morning. Whatever the last cycle is by then,
--- the file is refused by 6 or not at all: not with the one that it was checked with, and by 6 with the one that another file of its kind
--- has left, taken after the same last cycle.
+-- the file is refused by 6 or not at all: not with the one that it was checked with, and by 6 with the one that another file has left,
+-- of whatever version, taken after the same last cycle.
 pub record Morning (k : Kind) (m : Stores) (f answers : List ℕ) (last : ℕ) : Type 0 where
   pub only : (now : ℕ) → memberOf (taken k m f answers now .result .refusal) (0 ∷ 6 ∷ []) ≡ true
   pub applied : taken k m f answers last .result .refusal ≡ 0
-  pub overtaken : (s : Stores) (g a : List ℕ) → taken k s g a last .result .refusal ≡ 0
-      → taken k m f answers (taken k s g a last .result .last) .result .refusal ≡ 6
+  pub overtaken : (j : Kind) (s : Stores) (g a : List ℕ) → taken j s g a last .result .refusal ≡ 0
+      → taken k m f answers (taken j s g a last .result .last) .result .refusal ≡ 6
 
--- a file that was checked good, whatever files of either kind were taken or refused overnight
+-- a file that was checked good, whatever files of any kind were taken or refused overnight
 unfoldable pub Overnight : Type 0
 Overnight =
     (k : Kind) (o : Office) (files : List File) (f answers : List ℕ) (last : ℕ)
@@ -167,22 +174,25 @@ pub record Full (R : List ℕ) (h : Header) (r : List ℕ) (c : Code) : Type 0 w
 -- an answer of 20 means just that; and then the answer is 20, or one of 11 to 19 that stand before it
 pub record FullAnswered (R G : List ℕ) (h : Header) (r : List ℕ) (c : Code) (d : Day) : Type 0 where
   pub means : answerOf R G h r c d ≡ 20 → Full R h r c
-  pub then : Full R h r c → memberOf (answerOf R G h r c d) (drop 1 (answerNumbers Data)) ≡ true
+  pub then : Full R h r c → memberOf (answerOf R G h r c d) (drop 1 recordNumbers) ≡ true
 
 unfoldable pub FullsAnswer : Type 0
 FullsAnswer = (R G : List ℕ) (h : Header) (r : List ℕ) (c : Code) (d : Day) → FullAnswered R G h r c d
 
 -- ---- the load file
 
-pub record LoadAnswered (out : List ℕ) (l : Load) : Type 0 where
-  pub number : memberOf (l .result .refusal) loadNumbers ≡ true
+-- 2026-01: 27 comes "with the lowest such entry's slot", which is 0 otherwise
+pub record LoadAnswered (v : Version) (R out : List ℕ) (l : Load) : Type 0 where
+  pub number : memberOf (l .result .refusal) (loadNumbers v) ≡ true
   pub refused : l .result .refusal ≢ 0 → (l .result .bytes ≡ 0) × ((l .result .entries ≡ 0) × (l .output ≡ out))
-  pub sized : l .result .refusal ≡ 0 → l .result .bytes ≡ 400 + l .result .entries * 512
+  pub sized : l .result .refusal ≡ 0 → l .result .bytes ≡ edges (Data v) + l .result .entries * shapeOf (Data v) .line
   pub rest : drop (l .result .bytes) (l .output) ≡ drop (l .result .bytes) out
+  pub wide : l .result .refusal ≡ 27 → find (wideAt v R) (slots R) ≡ At (l .result .slot)
+  pub none : l .result .refusal ≢ 27 → l .result .slot ≡ 0
 
 unfoldable pub LoadsAnswer : Type 0
 LoadsAnswer =
-    (R date company : List ℕ) (c : ℕ) (out : List ℕ) → LoadAnswered out (loaded R date company c out)
+    (v : Version) (R date company : List ℕ) (c : ℕ) (out : List ℕ) → LoadAnswered v R out (loaded v R date company c out)
 
 -- ---- lookup
 
@@ -202,8 +212,8 @@ LookupsAnswer = (R n : List ℕ) → LookupAnswered R n (packed (seen R n))
 
 unfoldable pub OneData : Type 0
 OneData =
-    (R G f answers : List ℕ) (last : ℕ) (t u : Taken) (S T a b : List ℕ)
-    → TakesData R G f answers last t S a → TakesData R G f answers last u T b → (t ≡ u) × ((S ≡ T) × (a ≡ b))
+    (v : Version) (R G f answers : List ℕ) (last : ℕ) (t u : Taken) (S T a b : List ℕ)
+    → TakesData v R G f answers last t S a → TakesData v R G f answers last u T b → (t ≡ u) × ((S ≡ T) × (a ≡ b))
 
 unfoldable pub OneGuide : Type 0
 OneGuide =
@@ -217,8 +227,8 @@ OneCheck =
 
 unfoldable pub OneLoad : Type 0
 OneLoad =
-    (R date company : List ℕ) (c : ℕ) (out : List ℕ) (l m : Loaded) (a b : List ℕ)
-    → WritesLoad R date company c out l a → WritesLoad R date company c out m b → (l ≡ m) × (a ≡ b)
+    (v : Version) (R date company : List ℕ) (c : ℕ) (out : List ℕ) (l m : Loaded) (a b : List ℕ)
+    → WritesLoad v R date company c out l a → WritesLoad v R date company c out m b → (l ≡ m) × (a ≡ b)
 
 unfoldable pub OneLookup : Type 0
 OneLookup = (R n : List ℕ) (a b : ℕ) → LooksUp R n a → LooksUp R n b → a ≡ b

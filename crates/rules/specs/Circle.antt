@@ -1,7 +1,7 @@
 -- The brief's second demand, as a statement: "A load file written from a register with no number twice, and taken as the next cycle
 -- into an empty register of enough slots under a guide whose lowest row over each entry has its ESN, brings back every held entry but
--- for its Function and Source." Proved in `proofs/RoundTrip`: round-trip; and run-fit, that after any run from empty stores the
--- register and its own guide are fit for it.
+-- for its Function and Source." 2026-01: in either version. Proved in `proofs/RoundTrip`: round-trip; and run-fit, that after any run from
+-- empty stores the register and its own guide are fit for it.
 -- Assumes nothing.
 use Prim.Native.Nat.{ℕ, _*_, _≤_, _<_}
 use mathlib.Core.Path.{_≡_}
@@ -13,6 +13,7 @@ use Rattle.calendar.specs.declared.Date.the-variants.{Day as aDay}
 use Rattle.layout.specs.Tables.{dataRecord, startOf, function, source}
 use Rattle.layout.specs.Counters.{givenCycle, isNextOf}
 use Rattle.layout.specs.Fields.{numberOf, esnOf, rowEsnOf, dateOf}
+use Rattle.versions.specs.declared.Version.{Version}
 use Rattle.rules.specs.declared.Kind.the-variants.{Data}
 use Rattle.rules.specs.declared.Found.the-variants.{At}
 use Rattle.rules.specs.Walks.{count}
@@ -42,9 +43,9 @@ pub record Fit (R G : List ℕ) : Type 0 where
   pub zones : AllZoned R G
 
 -- the load file of R is written, and taken under the guide G into n empty slots, "as the next cycle"
-pub record Trip (R G date company : List ℕ) (c : ℕ) (out answers : List ℕ) (last n : ℕ) : Type 0 where
+pub record Trip (v : Version) (R G date company : List ℕ) (c : ℕ) (out answers : List ℕ) (last n : ℕ) : Type 0 where
   pub fit : Fit R G
-  pub written : loaded R date company c out .result .refusal ≡ 0
+  pub written : loaded v R date company c out .result .refusal ≡ 0
   pub guide : guideSound G ≡ true
   pub some : 1 ≤ n
   pub few : n ≤ 4096
@@ -53,13 +54,13 @@ pub record Trip (R G date company : List ℕ) (c : ℕ) (out answers : List ℕ)
   pub next : isNextOf (givenCycle last) (givenCycle c) ≡ true
 
 -- the file: the bytes written
-abbrev pub fileOf : List ℕ → List ℕ → List ℕ → ℕ → List ℕ → List ℕ
-fileOf R date company c out = take (loaded R date company c out .result .bytes) (loaded R date company c out .output)
+abbrev pub fileOf : Version → List ℕ → List ℕ → List ℕ → ℕ → List ℕ → List ℕ
+fileOf v R date company c out = take (loaded v R date company c out .result .bytes) (loaded v R date company c out .output)
 
 -- what taking it gives
-abbrev pub tripOf : List ℕ → List ℕ → List ℕ → List ℕ → ℕ → List ℕ → List ℕ → ℕ → ℕ → Outcome
-tripOf R G date company c out answers last n =
-    taken Data (record { register = replicate (n * slotSize) 0; guide = G }) (fileOf R date company c out) answers last
+abbrev pub tripOf : Version → List ℕ → List ℕ → List ℕ → List ℕ → ℕ → List ℕ → List ℕ → ℕ → ℕ → Outcome
+tripOf v R G date company c out answers last n =
+    taken (Data v) (record { register = replicate (n * slotSize) 0; guide = G }) (fileOf v R date company c out) answers last
 
 -- the entry s is back in the slot b: held, under the date in its record, every byte of the record but for its Function and Source
 pub record Back (s b : List ℕ) : Type 0 where
@@ -84,5 +85,5 @@ pub record Returned (R before : List ℕ) (c n : ℕ) (o : Outcome) : Type 0 whe
 
 unfoldable pub RoundTrip : Type 0
 RoundTrip =
-    (R G date company : List ℕ) (c : ℕ) (out answers : List ℕ) (last n : ℕ) → Trip R G date company c out answers last n
-    → Returned R answers c n (tripOf R G date company c out answers last n)
+    (v : Version) (R G date company : List ℕ) (c : ℕ) (out answers : List ℕ) (last n : ℕ) → Trip v R G date company c out answers last n
+    → Returned R answers c n (tripOf v R G date company c out answers last n)

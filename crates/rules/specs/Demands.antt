@@ -33,7 +33,7 @@ use Rattle.rules.specs.History.{Item, entry, row, historyAfter}
 
 -- ---- "Begin with an empty register and guide of fixed size that nothing else writes. After any run of files, taken or refused"
 
--- a file as it is handed over: of either kind, any bytes, with any answers buffer and any last cycle
+-- a file as it is handed over: a guide file or a data file of either version, any bytes, with any answers buffer and any last cycle
 pub record File : Type 0 where
   pub kind : Kind
   pub bytes : List ℕ

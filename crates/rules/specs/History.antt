@@ -1,4 +1,5 @@
--- What a take adds to the history: one ordered list of the accepted records and rows, the newest first.
+-- What a take adds to the history: one ordered list of the accepted records and rows, the newest first. A record of Version 1 is in it as
+-- it is applied, widened.
 -- Assumes nothing.
 use Prim.Native.Nat.{ℕ, zero, suc}
 use mathlib.Core.List.{List, _∷_}
@@ -8,14 +9,14 @@ use Rattle.layout.specs.declared.frame.Header.{Header}
 use Rattle.layout.specs.Counters.{givenCycle}
 use Rattle.rules.specs.declared.Kind.{Kind}
 use Rattle.rules.specs.declared.Kind.the-variants.{Data, Guide}
-use Rattle.rules.specs.Takes.{Stores, lineAt, linesIn, answerAt, checked, onChecked}
+use Rattle.rules.specs.Takes.{Stores, shapeOf, lineAt, linesIn, answerAt, checked, onChecked}
 
 pub data Item : Type 0 where
   entry : List ℕ → Item
   row : List ℕ → Item
 
 abbrev pub itemOf : Kind → List ℕ → Item
-itemOf Data r = entry r
+itemOf (Data v) r = entry (shapeOf (Data v) .wide r)
 itemOf Guide g = row g
 
 -- the history after the first i lines of a file: line i is in it exactly where answer i is 0

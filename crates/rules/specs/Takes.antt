@@ -1,4 +1,5 @@
--- 01, "Taking a file": the refusals 1 to 9, what is applied, and what is returned, for both kinds of file.
+-- 01, "Taking a file": the refusals 1 to 9, what is applied, and what is returned, for each kind of file: guide files, and data files of
+-- either version (2026-01).
 -- Assumes nothing.
 use Prim.Native.Nat.{ℕ, zero, suc, _+_, _*_, _-_, _/_, _%_}
 use mathlib.Core.Path.{_≡_}
@@ -9,10 +10,13 @@ use lib.ListN.{length, drop}
 use Rattle.text.specs.Text.{part}
 use Rattle.layout.specs.declared.frame.Header.{Header}
 use Rattle.layout.specs.declared.counter.Cycle.{Cycle}
-use Rattle.layout.specs.Tables.{dataRecord, guideRow, header, trailer}
+use Rattle.layout.specs.Tables.{dataRecord, narrowRecord, guideRow, headerTable, trailerTable}
 use Rattle.layout.specs.Counters.{givenCycle, isNextOf, isCount}
 use Rattle.layout.specs.Rules.{recordFault, rowFault}
 use Rattle.layout.specs.Frames.{headerOf, trailerOf, onHeader, onTrailer}
+use Rattle.versions.specs.declared.Version.{Version}
+use Rattle.versions.specs.declared.Version.the-variants.{One, Two}
+use Rattle.versions.specs.Versions.{widened}
 use Rattle.rules.specs.declared.Kind.{Kind}
 use Rattle.rules.specs.declared.Kind.the-variants.{Data, Guide}
 use Rattle.rules.specs.declared.Refusal.{Refusal}
@@ -26,39 +30,45 @@ use Rattle.rules.specs.Rows.{rowApplied}
 
 -- ---- the lines of a file
 
--- header and trailer have 200 bytes, a data record 512, a guide row 200
-abbrev pub frameSize : ℕ
-frameSize = 200
+-- a file's shape: how many bytes header and trailer have, how many a record or a row has, its table, and the record that is applied
+pub record Shape : Type 0 where
+  pub frame : ℕ
+  pub line : ℕ
+  pub table : List ℕ
+  pub wide : List ℕ → List ℕ
 
-abbrev pub lineSize : Kind → ℕ
-lineSize Data = 512
-lineSize Guide = 200
+-- "The caller says which version"; 2026-01: "the 240-byte record of document 003, Exhibit 1, with 160-byte header and trailer", taken "by
+-- widening each record to Version 2"
+abbrev pub shapeOf : Kind → Shape
+shapeOf (Data Two) = record { frame = 200; line = 512; table = dataRecord; wide = λ r. r }
+shapeOf (Data One) = record { frame = 160; line = 240; table = narrowRecord; wide = widened }
+shapeOf Guide = record { frame = 200; line = 200; table = guideRow; wide = λ g. g }
 
-abbrev pub lineTable : Kind → List ℕ
-lineTable Data = dataRecord
-lineTable Guide = guideRow
+-- header and trailer
+abbrev pub edges : Kind → ℕ
+edges k = shapeOf k .frame + shapeOf k .frame
 
 -- the first fault of a record or a row
 abbrev pub lineFault : Kind → List ℕ → ℕ
-lineFault Data r = recordFault dataRecord r
-lineFault Guide g = rowFault guideRow g
+lineFault (Data v) r = recordFault (shapeOf (Data v) .table) r
+lineFault Guide g = rowFault (shapeOf Guide .table) g
 
--- n, of a file of "400 + 512n (guide: 400 + 200n)" bytes
+-- n, of a file of "400 + 512n (guide: 400 + 200n)" bytes; 2026-01: "3 uses 240 and 320 for a Version 1 file"
 unfoldable pub linesIn : Kind → List ℕ → ℕ
-linesIn k f = (length f - 400) / lineSize k
+linesIn k f = (length f - edges k) / shapeOf k .line
 
 unfoldable pub goodFile : Kind → List ℕ → Bool
-goodFile k f = leb 400 (length f) && (eqb ((length f - 400) % lineSize k) 0 && leb (linesIn k f) 9999)
+goodFile k f = leb (edges k) (length f) && (eqb ((length f - edges k) % shapeOf k .line) 0 && leb (linesIn k f) 9999)
 
-unfoldable pub headerLine : List ℕ → List ℕ
-headerLine f = part 0 frameSize f
+unfoldable pub headerLine : Kind → List ℕ → List ℕ
+headerLine k f = part 0 (shapeOf k .frame) f
 
-unfoldable pub trailerLine : List ℕ → List ℕ
-trailerLine f = part (length f - frameSize) frameSize f
+unfoldable pub trailerLine : Kind → List ℕ → List ℕ
+trailerLine k f = part (length f - shapeOf k .frame) (shapeOf k .frame) f
 
 -- "Records follow one another with nothing between"
 unfoldable pub lineAt : Kind → List ℕ → ℕ → List ℕ
-lineAt k f i = part (frameSize + i * lineSize k) (lineSize k) f
+lineAt k f i = part (shapeOf k .frame + i * shapeOf k .line) (shapeOf k .line) f
 
 -- ---- the refusals, "tried in this order, and the first decides"
 
@@ -84,7 +94,7 @@ linesChecked k f h =
 -- and then the lines
 unfoldable pub trailerChecked : Kind → List ℕ → Header → Checked
 trailerChecked k f h =
-    onTrailer (trailerOf trailer (headerLine f) (trailerLine f)) (refuse 7) (λ c.
+    onTrailer (trailerOf (trailerTable (shapeOf k .frame)) (headerLine k f) (trailerLine k f)) (refuse 7) (λ c.
     cond (isCount c (linesIn k f)) (linesChecked k f h) (refuse 8))
 
 -- 5 | "header wrong"
@@ -92,7 +102,7 @@ trailerChecked k f h =
 -- and then the trailer
 unfoldable pub frameChecked : Kind → List ℕ → Cycle → Checked
 frameChecked k f last =
-    onHeader (headerOf header (headerLine f)) (refuse 5) (λ h.
+    onHeader (headerOf (headerTable (shapeOf k .frame)) (headerLine k f)) (refuse 5) (λ h.
     cond (isNextOf last (h .cycle)) (trailerChecked k f h) (refuse 6))
 
 -- 1 | "register length or a slot unsound"
@@ -119,10 +129,10 @@ pub record Answered : Type 0 where
 
 -- a data record writes the register, a guide row the guide
 unfoldable pub lineApplied : Kind → Header → List ℕ → Stores → Answered
-lineApplied Data h r s =
+lineApplied (Data v) h r s =
     record {
-      answer = applied (s .register) (s .guide) h r .answer;
-      stores = record { register = applied (s .register) (s .guide) h r .register; guide = s .guide };
+      answer = applied (s .register) (s .guide) h (shapeOf (Data v) .wide r) .answer;
+      stores = record { register = applied (s .register) (s .guide) h (shapeOf (Data v) .wide r) .register; guide = s .guide };
     }
 lineApplied Guide h g s =
     record {
@@ -205,11 +215,11 @@ taken k s f answers last =
     (λ r. refusedFile r s answers last)
 
 -- what taking a data file, and a guide file, promises: the result, and each lent buffer at exit
-abbrev pub TakesData : List ℕ → List ℕ → List ℕ → List ℕ → ℕ → Taken → List ℕ → List ℕ → Type 0
-TakesData R G f answers last result register answered =
-    (result ≡ taken Data (record { register = R; guide = G }) f answers last .result)
-    × ((register ≡ taken Data (record { register = R; guide = G }) f answers last .stores .register)
-    × (answered ≡ taken Data (record { register = R; guide = G }) f answers last .answers))
+abbrev pub TakesData : Version → List ℕ → List ℕ → List ℕ → List ℕ → ℕ → Taken → List ℕ → List ℕ → Type 0
+TakesData v R G f answers last result register answered =
+    (result ≡ taken (Data v) (record { register = R; guide = G }) f answers last .result)
+    × ((register ≡ taken (Data v) (record { register = R; guide = G }) f answers last .stores .register)
+    × (answered ≡ taken (Data v) (record { register = R; guide = G }) f answers last .answers))
 
 abbrev pub TakesGuide : List ℕ → List ℕ → List ℕ → List ℕ → ℕ → Taken → List ℕ → List ℕ → Type 0
 TakesGuide R G f answers last result guide answered =

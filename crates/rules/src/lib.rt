@@ -2,14 +2,15 @@
 // words of the description, and `proofs/` what follows from that.
 use calendar::Day;
 use layout::frame::Header;
+use versions::Version;
 
 pub mod answering;
 pub mod refusing;
 pub mod states;
 
-// The kind of a file.
+// The kind of a file: a data file of one of the two versions, or a guide file.
 pub enum Kind {
-    Data,
+    Data(Version),
     Guide,
 }
 
@@ -80,12 +81,13 @@ pub struct Seen {
     pub looked: u32,
 }
 
-// What writing a load file returns.
+// What writing a load file returns; the slot is 0 but in 27.
 #[repr(C)]
 pub struct Loaded {
     pub refusal: u32,
     pub bytes: u32,
     pub entries: u32,
+    pub slot: u32,
 }
 
 // What a conversion returns; the slot is 0 but in 28.

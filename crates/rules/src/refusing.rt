@@ -7,7 +7,7 @@ pub const REGISTER: u32 = 1;
 // "guide length or a slot unsound"
 pub const GUIDE: u32 = 2;
 
-// "file length isn't 400 + 512n (guide: 400 + 200n), n at most 9999"
+// "file length isn't 400 + 512n (guide: 400 + 200n), n at most 9999"; 2026-01: "3 uses 240 and 320 for a Version 1 file"
 pub const FILE_LENGTH: u32 = 3;
 
 // "answers buffer shorter than n"
@@ -36,6 +36,9 @@ pub const OUTPUT_SHORT: u32 = 25;
 
 // "date, name or cycle breaks the header's rules .. or the date is before an entry's day"
 pub const LOAD_HEADER: u32 = 26;
+
+// 2026-01: "if a Version 2 field or the tail of a longer field isn't blank"
+pub const NO_V1: u32 = 27;
 
 // "a stored day above 25567 has no reading now and is reported by its slot"
 pub const NO_READING: u32 = 28;

@@ -17,6 +17,7 @@ use Rattle.text.proofs.DigitLaws.{all-append}
 use Rattle.calendar.proofs.DayLaws.{every-at}
 use Rattle.layout.specs.Tables.{dataRecord}
 use Rattle.layout.specs.Rules.{recordFault}
+use Rattle.versions.specs.declared.Version.the-variants.{Two}
 use Rattle.rules.specs.declared.Kind.the-variants.{Data}
 use Rattle.rules.specs.declared.Found.the-variants.{At}
 use Rattle.rules.specs.Takes.{linesIn, lineAt, badLine, linesChecked}
@@ -53,7 +54,9 @@ reads-good r w = (ap length (line-is r w) ∙ line-long (w .text) (w .out), ap (
 
 pub in-file : InFile
 unfolding InFile linesChecked badLine ReadsGood
-in-file f h g = rw (find-nowhere (badLine Data f) (linesIn Data f) (λ i l. rw (reads-good (lineAt Data f i) (g i l) .1) refl)) refl
+in-file f h g =
+    let k = Data Two in
+    rw (find-nowhere (badLine k f) (linesIn k f) (λ i l. rw (reads-good (lineAt k f i) (g i l) .1) refl)) refl
 
 -- ---- no `|` in it
 

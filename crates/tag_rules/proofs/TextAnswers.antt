@@ -14,6 +14,7 @@ use Rattle.text.specs.Text.{memberOf}
 use Rattle.text.proofs.Laws.{or-right}
 use Rattle.layout.specs.Tables.{dataRecord}
 use Rattle.layout.specs.Rules.{recordFault}
+use Rattle.versions.specs.declared.Version.the-variants.{Two}
 use Rattle.rules.specs.declared.Kind.the-variants.{Data}
 use Rattle.rules.specs.Answered.{startsIn}
 use Rattle.rules.specs.Walks.{first}
@@ -74,7 +75,7 @@ module _ (out text : List ℕ) (n pos bytes : ℕ) where
 -- a fault that is told is at a field's first byte
 fault-placed : (r : List ℕ) → not (eqb (recordFault dataRecord r) 0) ≡ true
     → memberOf (recordFault dataRecord r) (startsIn dataRecord) ≡ true
-fault-placed r e = line-fault-starts Data r (eqb-false (recordFault dataRecord r) 0 (not-true (eqb (recordFault dataRecord r) 0) e))
+fault-placed r e = line-fault-starts (Data Two) r (eqb-false (recordFault dataRecord r) 0 (not-true (eqb (recordFault dataRecord r) 0) e))
 
 pub or-first : (b : Bool) → (b || false) ≡ true → b ≡ true
 or-first true e = refl

@@ -14,6 +14,7 @@ use Rattle.calendar.specs.Calendar.{yearsOf}
 use Rattle.layout.specs.declared.frame.Header.{Header}
 use Rattle.layout.specs.Tables.{dataRecord}
 use Rattle.layout.specs.Rules.{recordFault}
+use Rattle.versions.specs.declared.Version.the-variants.{Two}
 use Rattle.rules.specs.declared.Kind.the-variants.{Data}
 use Rattle.rules.specs.declared.Checked.the-variants.{Good}
 use Rattle.rules.specs.Answered.{startsIn}
@@ -73,7 +74,9 @@ ReadsGood = (r : List ℕ) → WasRead r → (length r ≡ 512) × (recordFault 
 
 -- and a file whose records were read so is not refused by 9
 unfoldable pub InFile : Type 0
-InFile = (f : List ℕ) (h : Header) → ((i : ℕ) → i < linesIn Data f → WasRead (lineAt Data f i)) → linesChecked Data f h ≡ Good h
+InFile =
+    (f : List ℕ) (h : Header) → ((i : ℕ) → i < linesIn (Data Two) f → WasRead (lineAt (Data Two) f i))
+    → linesChecked (Data Two) f h ≡ Good h
 
 -- what is read can be written, and so has its one tagged form
 unfoldable pub ReadsWritable : Type 0

@@ -1,8 +1,9 @@
-// A call: its line names it and what it is lent, `apply_data last=0 register=(00*520) ..`.
+// A call: its line names it and what it is lent, `apply_data last=0 version=1 register=(00*520) ..`.
 use crate::read;
 use crate::write;
 use rules::Taken;
 use taking::take;
+use versions::Version;
 
 const SPACE: u8 = b' ';
 
@@ -12,9 +13,18 @@ fn name(line: &[u8]) -> &[u8] {
     &line[0..e]
 }
 
+// The version of a data call: `version=1`, or Version 2.
+fn version(line: &[u8]) -> Version {
+    if read::number(read::value(line, b"version=")) == 1 {
+        return Version::One;
+    }
+    Version::Two
+}
+
 // What the call of this name returns.
 fn taken(
     name: &[u8],
+    version: Version,
     register: &mut [u8],
     guide: &mut [u8],
     file: &[u8],
@@ -22,13 +32,20 @@ fn taken(
     last: u32,
 ) -> Taken {
     if text::same(name, b"check_data") {
-        return take::check_data(&register[..], &guide[..], file, &answers[..], last);
+        return take::check_data(version, &register[..], &guide[..], file, &answers[..], last);
     }
     if text::same(name, b"check_guide") {
         return take::check_guide(&register[..], &guide[..], file, &answers[..], last);
     }
     if text::same(name, b"apply_data") {
-        return take::apply_data(&mut register[..], &guide[..], file, &mut answers[..], last);
+        return take::apply_data(
+            version,
+            &mut register[..],
+            &guide[..],
+            file,
+            &mut answers[..],
+            last,
+        );
     }
     take::apply_guide(&register[..], &mut guide[..], file, &mut answers[..], last)
 }
@@ -48,6 +65,7 @@ fn call(line: &[u8], register: &mut [u8], guide: &mut [u8], file: &[u8], answers
     let last = read::number(read::value(line, b"last="));
     returned(taken(
         name(line),
+        version(line),
         &mut register[..],
         &mut guide[..],
         file,

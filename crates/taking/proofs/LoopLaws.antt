@@ -14,7 +14,7 @@ use borrow.Author.Tests.{eq-eqb, ne-eqb, leb-true}
 use Rattle.layout.specs.declared.frame.Header.{Header}
 use Rattle.rules.specs.declared.Kind.{Kind}
 use Rattle.rules.specs.declared.Checked.the-variants.{Good, Refused}
-use Rattle.rules.specs.Takes.{Stores, lineAt, lineFault, linesIn, badLine, linesChecked, lineApplied, after, answerAt, answersTo, zerosIn, othersIn, lineSize, goodFile, appliedFile}
+use Rattle.rules.specs.Takes.{Stores, lineAt, lineFault, linesIn, badLine, linesChecked, lineApplied, after, answerAt, answersTo, zerosIn, othersIn, shapeOf, edges, goodFile, appliedFile}
 use Rattle.rules.proofs.WalkLaws.{Passed, find-hit, at-most-one}
 use Rattle.text.proofs.Laws.{and-right}
 use Rattle.rules.proofs.TakeLaws.{answers-length, zeros-more, zeros-others}
@@ -95,8 +95,8 @@ pub good-lines : (k : Kind) (f : List ℕ) → goodFile k f ≡ true → linesIn
 unfolding goodFile
 good-lines k f e =
     leb-true (linesIn k f) 9999
-    (and-right (eqb ((length f - 400) % lineSize k) 0) (leb (linesIn k f) 9999)
-    (and-right (leb 400 (length f)) (eqb ((length f - 400) % lineSize k) 0 && leb (linesIn k f) 9999) e))
+    (and-right (eqb ((length f - edges k) % shapeOf k .line) 0) (leb (linesIn k f) 9999)
+    (and-right (leb (edges k) (length f)) (eqb ((length f - edges k) % shapeOf k .line) 0 && leb (linesIn k f) 9999) e))
 
 -- what is returned of an applied file
 pub applied-is : (k : Kind) (h : Header) (s : Stores) (f answers : List ℕ) (n done : ℕ) → n ≡ linesIn k f → done ≡ zerosIn (answersTo k h f s n)

@@ -1,18 +1,21 @@
 // The checks of a file, in the order of the refusals. Nothing is written here.
 ghost use mathlib.Core.Path.{_≡_};
 ghost use Prim.Native.Nat.{_≤_};
-ghost use Rattle.rules.specs.Takes.{lineFault, linesIn, goodFile, headerLine, trailerLine, lineAt, refuse, linesChecked, trailerChecked, frameChecked, checked};
+ghost use Rattle.layout.specs.Tables.{headerTable, trailerTable};
+ghost use Rattle.layout.specs.Frames.{headerOf, trailerOf};
+ghost use Rattle.rules.specs.declared.Kind.the-variants.{Data};
+ghost use Rattle.rules.specs.Takes.{shapeOf, lineFault, linesIn, goodFile, headerLine, trailerLine, lineAt, refuse, linesChecked, trailerChecked, frameChecked, checked};
 use layout::counter::Cycle;
 use layout::frame::Closed;
 use layout::frame::Header;
 use layout::frame::Opened;
-use layout::place;
 use layout::table;
 use lines::frame;
 use rules::Checked;
 use rules::Kind;
 use rules::Refusal;
 use rules::refusing;
+use versions::Version;
 
 // A file has at most so many lines.
 const MOST: usize = 9999;
@@ -21,13 +24,12 @@ const MOST: usize = 9999;
 pub fn lines_in(kind: Kind, file: &[u8]) -> usize
     ensures { λ r. ⌜ r ≡ linesIn kind (now (file .entry)) ⌝ }
 {
-    if file.len() < place::FRAMES_SIZE {
+    let sizes = shapes::sizes_of(kind);
+    let edges = sizes.frame + sizes.frame;
+    if file.len() < edges {
         return 0;
     }
-    match kind {
-        Kind::Data => (file.len() - place::FRAMES_SIZE) / place::RECORD_SIZE,
-        Kind::Guide => (file.len() - place::FRAMES_SIZE) / place::ROW_SIZE,
-    }
+    (file.len() - edges) / sizes.line
 }
 
 // Line i, as a part of the file; behind the last line, what bytes there are.
@@ -35,18 +37,8 @@ pub fn line_at(kind: Kind, file: &[u8], i: usize) -> &[u8]
     requires { ⌜ i ≤ 9999 ⌝ }
     ensures { λ r. ⌜ now r ≡ lineAt kind (now (file .entry)) i ⌝ }
 {
-    match kind {
-        Kind::Data => text::part_of(
-            file,
-            place::FRAME_SIZE + i * place::RECORD_SIZE,
-            place::RECORD_SIZE,
-        ),
-        Kind::Guide => text::part_of(
-            file,
-            place::FRAME_SIZE + i * place::ROW_SIZE,
-            place::ROW_SIZE,
-        ),
-    }
+    let sizes = shapes::sizes_of(kind);
+    text::part_of(file, sizes.frame + i * sizes.line, sizes.line)
 }
 
 fn refused(number: u32) -> Checked
@@ -63,13 +55,21 @@ fn refused(number: u32) -> Checked
 fn is_good_file(kind: Kind, file: &[u8]) -> bool
     ensures { λ r. ⌜ r ≡ goodFile kind (now (file .entry)) ⌝ }
 {
-    if file.len() < place::FRAMES_SIZE {
+    let sizes = shapes::sizes_of(kind);
+    let edges = sizes.frame + sizes.frame;
+    if file.len() < edges {
         return false;
     }
-    let few = lines_in(kind, file) <= MOST;
-    match kind {
-        Kind::Data => ((file.len() - place::FRAMES_SIZE) % place::RECORD_SIZE == 0) & few,
-        Kind::Guide => ((file.len() - place::FRAMES_SIZE) % place::ROW_SIZE == 0) & few,
+    ((file.len() - edges) % sizes.line == 0) & (lines_in(kind, file) <= MOST)
+}
+
+// The first fault of a record, with the positions of its version.
+fn record_fault(version: Version, line: &[u8]) -> usize
+    ensures { λ r. ⌜ r ≡ lineFault (Data version) (now (line .entry)) ⌝ }
+{
+    match version {
+        Version::One => faults::narrow_fault(line),
+        Version::Two => faults::record_fault(line),
     }
 }
 
@@ -78,7 +78,7 @@ fn line_fault(kind: Kind, line: &[u8]) -> usize
     ensures { λ r. ⌜ (r ≡ lineFault kind (now (line .entry))) × (r ≤ 512) ⌝ }
 {
     match kind {
-        Kind::Data => faults::record_fault(line),
+        Kind::Data(version) => record_fault(version, line),
         Kind::Guide => faults::row_fault(line),
     }
 }
@@ -103,19 +103,39 @@ fn check_lines(kind: Kind, file: &[u8], n: usize, h: Header) -> Checked
     Checked::Good(h)
 }
 
-fn header_line(file: &[u8]) -> &[u8]
-    ensures { λ r. ⌜ now r ≡ headerLine (now (file .entry)) ⌝ }
+fn header_line(kind: Kind, file: &[u8]) -> &[u8]
+    ensures { λ r. ⌜ now r ≡ headerLine kind (now (file .entry)) ⌝ }
 {
-    text::part_of(file, 0, place::FRAME_SIZE)
+    let sizes = shapes::sizes_of(kind);
+    text::part_of(file, 0, sizes.frame)
 }
 
-fn trailer_line(file: &[u8]) -> &[u8]
-    ensures { λ r. ⌜ now r ≡ trailerLine (now (file .entry)) ⌝ }
+fn trailer_line(kind: Kind, file: &[u8]) -> &[u8]
+    ensures { λ r. ⌜ now r ≡ trailerLine kind (now (file .entry)) ⌝ }
 {
-    if file.len() < place::FRAME_SIZE {
-        return text::part_of(file, 0, place::FRAME_SIZE);
+    let sizes = shapes::sizes_of(kind);
+    if file.len() < sizes.frame {
+        return text::part_of(file, 0, sizes.frame);
     }
-    text::part_of(file, file.len() - place::FRAME_SIZE, place::FRAME_SIZE)
+    text::part_of(file, file.len() - sizes.frame, sizes.frame)
+}
+
+// What the header says, by the table for its length.
+fn header_in(kind: Kind, file: &[u8]) -> Opened
+    ensures { λ r. ⌜ r ≡ headerOf (headerTable (shapeOf kind .frame)) (headerLine kind (now (file .entry))) ⌝ }
+{
+    let sizes = shapes::sizes_of(kind);
+    let fields = table::header_table(sizes.frame);
+    frame::header_in(&fields, header_line(kind, file))
+}
+
+// What the trailer says, in the same way, beside the header.
+fn trailer_in(kind: Kind, file: &[u8]) -> Closed
+    ensures { λ r. ⌜ r ≡ trailerOf (trailerTable (shapeOf kind .frame)) (headerLine kind (now (file .entry))) (trailerLine kind (now (file .entry))) ⌝ }
+{
+    let sizes = shapes::sizes_of(kind);
+    let fields = table::trailer_table(sizes.frame);
+    frame::trailer_in(&fields, header_line(kind, file), trailer_line(kind, file))
 }
 
 // 7 and 8: the trailer, and then the lines.
@@ -123,9 +143,7 @@ fn check_trailer(kind: Kind, file: &[u8], h: Header) -> Checked
     requires { ⌜ linesIn kind (now file) ≤ 9999 ⌝ }
     ensures { λ r. ⌜ r ≡ trailerChecked kind (now (file .entry)) h ⌝ }
 {
-    let fields: &[usize] = &table::TRAILER;
-    let Closed::Trailer(count) = frame::trailer_in(fields, header_line(file), trailer_line(file))
-    else {
+    let Closed::Trailer(count) = trailer_in(kind, file) else {
         return refused(refusing::TRAILER);
     };
     let n = lines_in(kind, file);
@@ -140,8 +158,7 @@ fn check_frame(kind: Kind, file: &[u8], last: Cycle) -> Checked
     requires { ⌜ linesIn kind (now file) ≤ 9999 ⌝ }
     ensures { λ r. ⌜ r ≡ frameChecked kind (now (file .entry)) last ⌝ }
 {
-    let fields: &[usize] = &table::HEADER;
-    let Opened::Header(h) = frame::header_in(fields, header_line(file)) else {
+    let Opened::Header(h) = header_in(kind, file) else {
         return refused(refusing::HEADER);
     };
     let cycle = h.cycle;

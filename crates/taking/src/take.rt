@@ -13,6 +13,7 @@ use rules::Kind;
 use rules::Refusal;
 use rules::Taken;
 use rules::refusing;
+use versions::Version;
 
 // What a refused file returns.
 fn refused(r: Refusal, last: u32) -> Taken
@@ -63,7 +64,7 @@ fn applied(h: Header, n: usize, done: u32) -> Taken
     }
 }
 
-// Checks a file of either kind. Of the answers only the length is looked at.
+// Checks a file of any kind. Of the answers only the length is looked at.
 fn check(kind: Kind, register: &[u8], guide: &[u8], file: &[u8], answers: &[u8], last: u32) -> Taken
     ensures { λ r. ⌜ Checks kind (now (register .entry)) (now (guide .entry)) (now (file .entry)) (now (answers .entry)) last r ⌝ }
 {
@@ -75,11 +76,18 @@ fn check(kind: Kind, register: &[u8], guide: &[u8], file: &[u8], answers: &[u8],
     }
 }
 
-// Checks a data file: all that applying it would refuse it for.
-pub fn check_data(register: &[u8], guide: &[u8], file: &[u8], answers: &[u8], last: u32) -> Taken
-    ensures { λ r. ⌜ Checks Data (now (register .entry)) (now (guide .entry)) (now (file .entry)) (now (answers .entry)) last r ⌝ }
+// Checks a data file of the version that the caller says: all that applying it would refuse it for.
+pub fn check_data(
+    version: Version,
+    register: &[u8],
+    guide: &[u8],
+    file: &[u8],
+    answers: &[u8],
+    last: u32,
+) -> Taken
+    ensures { λ r. ⌜ Checks (Data version) (now (register .entry)) (now (guide .entry)) (now (file .entry)) (now (answers .entry)) last r ⌝ }
 {
-    check(Kind::Data, register, guide, file, answers, last)
+    check(Kind::Data(version), register, guide, file, answers, last)
 }
 
 // The same for a guide file.
@@ -91,17 +99,18 @@ pub fn check_guide(register: &[u8], guide: &[u8], file: &[u8], answers: &[u8], l
 
 // Applies a data file: the guide is read, the register and the answers are written.
 pub fn apply_data(
+    version: Version,
     register: &mut [u8],
     guide: &[u8],
     file: &[u8],
     answers: &mut [u8],
     last: u32,
 ) -> Taken
-    ensures { λ r. ⌜ TakesData (now (register .entry)) (now (guide .entry)) (now (file .entry)) (now (answers .entry)) last r (now (register .exit)) (now (answers .exit)) ⌝ }
+    ensures { λ r. ⌜ TakesData version (now (register .entry)) (now (guide .entry)) (now (file .entry)) (now (answers .entry)) last r (now (register .exit)) (now (answers .exit)) ⌝ }
 {
     let room = answers.len();
     let checked = checks::check_file(
-        Kind::Data,
+        Kind::Data(version),
         &register[..],
         guide,
         file,
@@ -111,8 +120,16 @@ pub fn apply_data(
     match checked {
         Checked::Refused(r) => refused(r, last),
         Checked::Good(h) => {
-            let n = checks::lines_in(Kind::Data, file);
-            let done = apply::apply_records(&mut register[..], guide, file, &mut answers[..], h, n);
+            let n = checks::lines_in(Kind::Data(version), file);
+            let done = apply::apply_records(
+                version,
+                &mut register[..],
+                guide,
+                file,
+                &mut answers[..],
+                h,
+                n,
+            );
             applied(h, n, done)
         }
     }

@@ -8,6 +8,7 @@ use mathlib.Core.List.{List, [], _∷_, _++_}
 use Prim.Native.Nat.{ℕ}
 use native.Mathlib.Omega.{arith}
 use Rattle.calendar.specs.Former.{formerOf}
+use Rattle.versions.specs.declared.Version.the-variants.{Two}
 use Rattle.rules.specs.declared.Kind.the-variants.{Data, Guide}
 use Rattle.rules.specs.Slots.{slots, slotAt, stateOf, slotDay, isHeld, restated, unsoundBy, registerSoundBy}
 use Rattle.rules.specs.Converts.{lateAt, convertedSlot, convertedTo, Conversion, conversion, ConvertDone, ConvertsAnswer, ConvertKeeps, HeldOnce}
@@ -66,7 +67,7 @@ done = convert-answered (with 1 0) .done refl
 abbrev opens : List File
 opens =
     record { kind = Guide; bytes = guideFile; answers = 1 ∷ []; last = 0 }
-    ∷ record { kind = Data; bytes = opening ++ (line 73 65 ++ (line 85 65 ++ closing 50)); answers = 1 ∷ 1 ∷ []; last = 0 }
+    ∷ record { kind = Data Two; bytes = opening ++ (line 73 65 ++ (line 85 65 ++ closing 50)); answers = 1 ∷ 1 ∷ []; last = 0 }
     ∷ []
 
 abbrev office : Office

@@ -8,6 +8,7 @@ use lib.ListN.{getD, replicate}
 use Rattle.layout.specs.declared.frame.Header.{Header}
 use Rattle.rules.specs.Slots.{slots, slotAt, recordOf, isHeld}
 use Rattle.rules.specs.Records.{applied}
+use Rattle.versions.specs.declared.Version.the-variants.{Two}
 use Rattle.rules.specs.declared.Kind.the-variants.{Data, Guide}
 use Rattle.rules.specs.Takes.{taken}
 use Rattle.rules.specs.Lookups.{seen}
@@ -104,15 +105,15 @@ since-migrate = holder 1 1 files since (line 77 66) past refl refl (λ e. refl, 
 -- ---- evening and morning
 
 -- the file of the D is checked good of empty stores; overnight the run's files are taken, a data file of the same cycle among them
-pub morning : Morning Data (office .stores) deleteFile (1 ∷ []) 0
+pub morning : Morning (Data Two) (office .stores) deleteFile (1 ∷ []) 0
 unfolding run-seen Overnight
-morning = overnight Data (start 1 1) files deleteFile (1 ∷ []) 0 refl
+morning = overnight (Data Two) (start 1 1) files deleteFile (1 ∷ []) 0 refl
 
 -- what the guide file left, which that data file was taken after
 abbrev ruled : Office
 ruled = run (record { kind = Guide; bytes = guideFile; answers = 1 ∷ []; last = 0 } ∷ []) (start 1 1)
 
 -- so the D is refused by 6 after the last cycle that it returned, 1
-pub overtaken : taken Data (office .stores) deleteFile (1 ∷ []) 1 .result .refusal ≡ 6
+pub overtaken : taken (Data Two) (office .stores) deleteFile (1 ∷ []) 1 .result .refusal ≡ 6
 unfolding run-seen
-overtaken = morning .overtaken (ruled .stores) dataFile (1 ∷ 1 ∷ 1 ∷ 1 ∷ 1 ∷ []) refl
+overtaken = morning .overtaken (Data Two) (ruled .stores) dataFile (1 ∷ 1 ∷ 1 ∷ 1 ∷ 1 ∷ []) refl

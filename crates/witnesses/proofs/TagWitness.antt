@@ -12,6 +12,7 @@ use Rattle.layout.specs.declared.frame.Header.{Header}
 use Rattle.layout.specs.Tables.{dataRecord}
 use Rattle.layout.specs.Fields.{functionOf}
 use Rattle.layout.specs.Rules.{recordFault, faultIn, faultBy, isWhole, keeps, keepsOther, houseFault, isDirection, isDate}
+use Rattle.versions.specs.declared.Version.the-variants.{Two}
 use Rattle.rules.specs.declared.Kind.the-variants.{Data}
 use Rattle.rules.specs.declared.Checked.the-variants.{Good}
 use Rattle.rules.specs.Walks.{first, find}
@@ -144,7 +145,7 @@ unfolding ReadsWritable
 writable = reads-writable full (zeros 452) was-read (omega arith)
 
 -- the record between header and trailer, whatever they are
-pub filed : (h : Header) → linesChecked Data (zeros 200 ++ (full ++ zeros 200)) h ≡ Good h
+pub filed : (h : Header) → linesChecked (Data Two) (zeros 200 ++ (full ++ zeros 200)) h ≡ Good h
 unfolding InFile linesIn lineAt
 filed h = in-file (zeros 200 ++ (full ++ zeros 200)) h (λ i l. let z : i ≡ 0 = omega arith in rw z was-read)
 

@@ -10,6 +10,7 @@ use Rattle.layout.specs.Counters.{cycleOf, wholeCount, countOf}
 use Rattle.layout.specs.Fields.{functionOf, numberOf, houseOf, streetOf, placeOf, esnOf, hasEsn, dateOf, companyOf, rowStreetOf, rowPlaceOf, lowOf, highOf, parityOf, allows, rowEsnOf, rowFunctionOf, withEsn, forLoad}
 use Rattle.layout.specs.Frames.{dateOf as frameDateOf, nameOf, headerOf, sameFrame, trailerOf, frameWith, headerWith, trailerWith}
 use Rattle.layout.specs.Rules.{isDirection, isDate, isCycle, isTally, keepsFrame, keepsOther, keeps, houseFault, endFault, highFault, parityFault, isWhole, faultBy, faultIn, recordFault, rowFault}
+use Rattle.versions.specs.declared.Version.the-variants.{Two}
 use Rattle.rules.specs.declared.Kind.the-variants.{Data, Guide}
 use Rattle.rules.specs.declared.Taken.{Taken}
 use Rattle.rules.specs.Walks.{find, walked, count, first}
@@ -20,7 +21,7 @@ use Rattle.rules.specs.Rows.{rowCodeOf, clashAt, findClash, vacantAt, findVacan
 use Rattle.rules.specs.Takes.{linesIn, goodFile, headerLine, trailerLine, lineAt, badLine, linesChecked, trailerChecked, frameChecked, checked, lineApplied, after, answerAt, answersTo, zerosIn, othersIn, Outcome, refusedFile, appliedFile, taken}
 use Rattle.rules.specs.Checks.{foretold}
 use Rattle.rules.specs.Lookups.{isNumber, seenIn, seen as lookup, packed}
-use Rattle.rules.specs.Loads.{entryAt, entriesIn, linesTo, headerFor, trailerFor, loadFile, loadSize, loadHeader, laterAt, headerRefusal, loadRefusal, Load, loaded}
+use Rattle.rules.specs.Loads.{entryAt, entriesIn, linesTo, headerFor, trailerFor, loadFile, loadSize, loadHeader, laterAt, wideAt, narrowRefusal, headerRefusal, loadRefusal, wideSlot, Load, loaded}
 use Rattle.rules.specs.History.{historyTo, historyAfter}
 use Rattle.rules.specs.Demands.{File, start, taking, run}
 
@@ -64,7 +65,7 @@ dataFile = opening ++ (line 73 65 ++ (line 85 65 ++ (line 77 66 ++ (line 67 65 +
 abbrev pub files : List File
 files =
     record { kind = Guide; bytes = guideFile; answers = 1 ∷ []; last = 0 }
-    ∷ record { kind = Data; bytes = dataFile; answers = 1 ∷ 1 ∷ 1 ∷ 1 ∷ 1 ∷ []; last = 0 }
+    ∷ record { kind = Data Two; bytes = dataFile; answers = 1 ∷ 1 ∷ 1 ∷ 1 ∷ 1 ∷ []; last = 0 }
     ∷ []
 
 -- a file of one record with a bad code, and one of D of B
@@ -75,7 +76,7 @@ abbrev pub deleteFile : List ℕ
 deleteFile = opening ++ (line 68 66 ++ closing 49)
 
 -- the numbers of a check, and of a take
-abbrev numbers : Taken → List ℕ
+abbrev pub numbers : Taken → List ℕ
 numbers t = t .refusal ∷ t .place ∷ t .position ∷ t .records ∷ t .done ∷ t .undone ∷ t .last ∷ []
 
 abbrev returned : Outcome → List ℕ
@@ -90,15 +91,15 @@ written l =
 -- the guide file and the data file, what lookup shows then, the D, the load file before and after it, an empty file and a bad one; the
 -- data file checked before it is taken and afterwards, and the bad one checked
 unfoldable pub seen : List (List ℕ)
-unfolding spelled runsOf putAt dayOf cycleOf wholeCount countOf functionOf numberOf houseOf streetOf placeOf esnOf hasEsn dateOf companyOf rowStreetOf rowPlaceOf lowOf highOf parityOf allows rowEsnOf rowFunctionOf withEsn frameDateOf nameOf headerOf sameFrame trailerOf isDirection isDate isCycle isTally keepsFrame keepsOther keeps houseFault endFault highFault parityFault isWhole faultBy faultIn recordFault rowFault find first place withPlace goodLength stateOf slotDay recordOf slotOf isZero fitsSlot dayFits usedSound slotSound unsoundSlot registerSound isPresent isVacant rowOf rowSlotOf freeRowSlot presentSound rowSlotSound unsoundRowSlot guideSound hits covers sameStreet meetFrom meets clash sameRow filedOf hasNumber findNumber isOver findRow freeAt isReusable reusableAt findFree findReusable findSpare answerOf shown registerAfter step applied rowCodeOf clashAt findClash vacantAt findVacant sameAt findSame entryUnder findEntry rowApplied linesIn goodFile headerLine trailerLine lineAt badLine linesChecked trailerChecked frameChecked checked lineApplied after answerAt answersTo zerosIn othersIn refusedFile appliedFile taken foretold historyTo historyAfter start taking run walked count isNumber seenIn lookup packed forLoad width amongSpaces leftDigits rightDigits frameWith headerWith trailerWith entryAt entriesIn linesTo headerFor trailerFor loadFile loadSize loadHeader laterAt headerRefusal loadRefusal loaded
+unfolding spelled runsOf putAt dayOf cycleOf wholeCount countOf functionOf numberOf houseOf streetOf placeOf esnOf hasEsn dateOf companyOf rowStreetOf rowPlaceOf lowOf highOf parityOf allows rowEsnOf rowFunctionOf withEsn frameDateOf nameOf headerOf sameFrame trailerOf isDirection isDate isCycle isTally keepsFrame keepsOther keeps houseFault endFault highFault parityFault isWhole faultBy faultIn recordFault rowFault find first place withPlace goodLength stateOf slotDay recordOf slotOf isZero fitsSlot dayFits usedSound slotSound unsoundSlot registerSound isPresent isVacant rowOf rowSlotOf freeRowSlot presentSound rowSlotSound unsoundRowSlot guideSound hits covers sameStreet meetFrom meets clash sameRow filedOf hasNumber findNumber isOver findRow freeAt isReusable reusableAt findFree findReusable findSpare answerOf shown registerAfter step applied rowCodeOf clashAt findClash vacantAt findVacant sameAt findSame entryUnder findEntry rowApplied linesIn goodFile headerLine trailerLine lineAt badLine linesChecked trailerChecked frameChecked checked lineApplied after answerAt answersTo zerosIn othersIn refusedFile appliedFile taken foretold historyTo historyAfter start taking run walked count isNumber seenIn lookup packed forLoad width amongSpaces leftDigits rightDigits frameWith headerWith trailerWith entryAt entriesIn linesTo headerFor trailerFor loadFile loadSize loadHeader laterAt wideAt narrowRefusal headerRefusal loadRefusal wideSlot loaded
 seen =
     let o = run (record { kind = Guide; bytes = guideFile; answers = 1 ∷ []; last = 0 } ∷ []) (start 1 1) in
-    let t = taken Data (o .stores) dataFile (1 ∷ 1 ∷ 1 ∷ 1 ∷ 1 ∷ []) 0 in
+    let t = taken (Data Two) (o .stores) dataFile (1 ∷ 1 ∷ 1 ∷ 1 ∷ 1 ∷ []) 0 in
     let e = run files (start 1 1) in
     let R = e .stores .register in
     let s = slotAt R 0 in
     let l = lookup R (replicate 10 49) in
-    let d = taken Data (e .stores) deleteFile (1 ∷ []) 0 in
+    let d = taken (Data Two) (e .stores) deleteFile (1 ∷ []) 0 in
     t .answers
     ∷ returned t
     ∷ (length (e .history) ∷ [])
@@ -106,14 +107,14 @@ seen =
     ∷ (l .refusal ∷ l .state ∷ l .slot ∷ l .looked ∷ packed l ∷ [])
     ∷ (lookup R [] .refusal ∷ [])
     ∷ returned d
-    ∷ written (loaded R day company 1 (spaces 912))
-    ∷ written (loaded (d .stores .register) day company 1 (spaces 912))
-    ∷ written (loaded R day company 1 (spaces 911))
-    ∷ returned (taken Data (e .stores) [] [] 1)
-    ∷ returned (taken Data (e .stores) badFile (1 ∷ []) 0)
-    ∷ numbers (foretold Data (o .stores) dataFile (1 ∷ 1 ∷ 1 ∷ 1 ∷ 1 ∷ []) 0)
-    ∷ numbers (foretold Data (e .stores) dataFile (1 ∷ 1 ∷ 1 ∷ 1 ∷ 1 ∷ []) 1)
-    ∷ numbers (foretold Data (e .stores) badFile (1 ∷ []) 0)
+    ∷ written (loaded Two R day company 1 (spaces 912))
+    ∷ written (loaded Two (d .stores .register) day company 1 (spaces 912))
+    ∷ written (loaded Two R day company 1 (spaces 911))
+    ∷ returned (taken (Data Two) (e .stores) [] [] 1)
+    ∷ returned (taken (Data Two) (e .stores) badFile (1 ∷ []) 0)
+    ∷ numbers (foretold (Data Two) (o .stores) dataFile (1 ∷ 1 ∷ 1 ∷ 1 ∷ 1 ∷ []) 0)
+    ∷ numbers (foretold (Data Two) (e .stores) dataFile (1 ∷ 1 ∷ 1 ∷ 1 ∷ 1 ∷ []) 1)
+    ∷ numbers (foretold (Data Two) (e .stores) badFile (1 ∷ []) 0)
     ∷ []
 
 pub witness : seen

@@ -3,11 +3,9 @@
 
 use outside::call::Op;
 use outside::face::Library;
-use outside::gen::{file, put};
-use outside::model::layout::{
-    record, EDGE, EDGES, GUIDE_SLOT, MOST_RECORDS, MOST_SLOTS, RECORD, REGISTER_SLOT,
-};
-use outside::model::Described;
+use outside::gen::file;
+use outside::model::layout::{GUIDE_SLOT, MOST_RECORDS, MOST_SLOTS, RECORD, REGISTER_SLOT};
+use outside::model::{Described, Version};
 use outside::random::Random;
 use outside::subject::{Model, Subject};
 use outside::texts::ENOUGH;
@@ -85,7 +83,7 @@ fn copying<'a>(lent: Vec<&'a [u8]>) -> Pass<'a> {
 /// Checks or applies of a data file, each on the register as it was.
 fn data<'a>(
     subject: &'a impl Subject,
-    op: Op,
+    (op, version): (Op, Version),
     register: &'a [u8],
     guide: &'a [u8],
     file: &'a [u8],
@@ -96,8 +94,8 @@ fn data<'a>(
         lent.copy_from_slice(register);
         answers.fill(0xee);
         match op {
-            Op::CheckData => timed(|| subject.check_data(&lent, guide, file, &answers, 0)),
-            _ => timed(|| subject.apply_data(&mut lent, guide, file, &mut answers, 0)),
+            Op::CheckData => timed(|| subject.check_data(version, &lent, guide, file, &answers, 0)),
+            _ => timed(|| subject.apply_data(version, &mut lent, guide, file, &mut answers, 0)),
         }
     })
 }
@@ -126,12 +124,13 @@ fn lookup<'a>(subject: &'a impl Subject, register: &'a [u8], number: &'a [u8]) -
     Box::new(move || timed(|| subject.lookup(black_box(register), number)))
 }
 
-fn load<'a>(subject: &'a impl Subject, register: &'a [u8], out: usize) -> Pass<'a> {
+/// Load files of a full register.
+fn load<'a>(subject: &'a impl Subject, version: Version, register: &'a [u8]) -> Pass<'a> {
     let name = outside::gen::NAME;
-    let mut out = vec![0; out];
+    let mut out = vec![0; version.file(register.len() / REGISTER_SLOT)];
     Box::new(move || {
         out.fill(0xee);
-        timed(|| subject.write_load(register, b"010224", name, 1, &mut out))
+        timed(|| subject.write_load(version, register, b"010224", name, 1, &mut out))
     })
 }
 
@@ -214,6 +213,14 @@ fn loads(register: &[u8]) -> Pass<'_> {
     })
 }
 
+/// What stands behind a call's name where it is of Version 1.
+fn of(version: Version) -> &'static str {
+    match version {
+        Version::One => ", Version 1",
+        Version::Two => "",
+    }
+}
+
 /// The cases at a size of stores.
 struct Bench {
     slots: usize,
@@ -247,32 +254,33 @@ impl Bench {
     }
 
     /// A row for a data file under this name.
-    fn data_file(&self, op: Op, name: &str, file: &[u8]) {
+    fn data_file(&self, call: (Op, Version), name: &str, file: &[u8]) {
         let (register, guide) = (&self.register, &self.guide);
         let name = format!("{name}, {} slots and rows", self.slots);
-        let library = data(&Library, op, register, guide, file);
-        let model = data(&MODEL, op, register, guide, file);
+        let library = data(&Library, call, register, guide, file);
+        let model = data(&MODEL, call, register, guide, file);
         report(&name, library, model, copying(vec![register, guide, file]));
     }
 
-    fn data(&self, op: Op, records: usize) {
-        let file = town::mixed_file(records, self.slots, self.slots);
-        let name = format!("{}, {records} records", op.name());
-        self.data_file(op, &name, &file);
+    fn data(&self, op: Op, version: Version, records: usize) {
+        let file = town::mixed_file(version, records, self.slots, self.slots);
+        let name = format!("{}{}, {records} records", op.name(), of(version));
+        self.data_file((op, version), &name, &file);
     }
 
     /// An apply that tests all that a good check tests, and applies nothing: the
     /// last byte of the last record is wrong.
-    fn refused(&self, records: usize) {
-        let mut file = town::mixed_file(records, self.slots, self.slots);
-        let last = file.len() - EDGE - RECORD;
-        put(&mut file[last..], record::STAR, b"?");
+    fn refused(&self, version: Version, records: usize) {
+        let mut file = town::mixed_file(version, records, self.slots, self.slots);
+        let star = file.len() - version.edge() - 1;
+        file[star] = b'?';
         let op = Op::ApplyData;
         let name = format!(
-            "{}, refused for its last record, {records} records",
-            op.name()
+            "{}{}, refused for its last record, {records} records",
+            op.name(),
+            of(version)
         );
-        self.data_file(op, &name, &file);
+        self.data_file((op, version), &name, &file);
     }
 
     fn rows(&self, op: Op) {
@@ -292,28 +300,34 @@ impl Bench {
 
     fn soundness(&self) {
         let file = file(b"010224", 1, b"", 0);
-        self.data_file(Op::ApplyData, "soundness (apply of 0 records)", &file);
+        let call = (Op::ApplyData, Version::Two);
+        self.data_file(call, "soundness (apply of 0 records)", &file);
     }
 
-    /// Both calls that take a data file, and both that take a guide file.
+    /// Both calls that take a data file of this version.
+    fn data_takes(&self, version: Version, records: usize) {
+        self.data(Op::CheckData, version, records);
+        self.data(Op::ApplyData, version, records);
+    }
+
+    /// Both calls that take a data file, of either version, and both that take a
+    /// guide file.
     fn takes(&self, records: usize) {
-        self.data(Op::CheckData, records);
-        self.data(Op::ApplyData, records);
+        self.data_takes(Version::Two, records);
+        self.data_takes(Version::One, records);
         self.rows(Op::CheckGuide);
         self.rows(Op::ApplyGuide);
     }
 
+    /// Load files of either version: every entry has a form in both.
     fn load(&self) {
-        let out = EDGES + self.slots * RECORD;
         let register = &self.register;
-        let library = load(&Library, register, out);
-        let name = format!("load file, {} entries", self.slots);
-        report(
-            &name,
-            library,
-            load(&MODEL, register, out),
-            copying(vec![register]),
-        );
+        for version in [Version::Two, Version::One] {
+            let name = format!("load file{}, {} entries", of(version), self.slots);
+            let library = load(&Library, version, register);
+            let model = load(&MODEL, version, register);
+            report(&name, library, model, copying(vec![register]));
+        }
     }
 
     fn conversion(&self) {
@@ -331,7 +345,8 @@ fn main() {
     println!("|---|---|---|---|---|---|---|");
     let full = Bench::new(MOST_SLOTS);
     full.lookups();
-    full.refused(MOST_RECORDS);
+    full.refused(Version::Two, MOST_RECORDS);
+    full.refused(Version::One, MOST_RECORDS);
     full.takes(MOST_RECORDS);
     full.load();
     full.soundness();
@@ -353,7 +368,7 @@ fn main() {
         bench.conversion();
     }
     for records in [512, 1024, 2048, 4096, 8192] {
-        full.data(Op::CheckData, records);
-        full.data(Op::ApplyData, records);
+        full.data_takes(Version::Two, records);
+        full.data_takes(Version::One, records);
     }
 }

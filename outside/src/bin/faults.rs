@@ -1,4 +1,4 @@
-//! `faults [--seed S] [--cases N] [--full]`: twelve faults put into the model by
+//! `faults [--seed S] [--cases N] [--full]`: fifteen faults put into the model by
 //! hand. The differential runs against the library must see each of them; `--full`
 //! prints the call that showed it, made small.
 
@@ -7,7 +7,8 @@ use outside::explore::{Explorer, Finding, Runs};
 use outside::face::Library;
 use outside::model::rules::{
     AnswersUnmeasured, ClashWithoutParity, CpdFrom1960, CycleFromCheck, NinetyOneDays, NoCycleWrap,
-    NoLeapYear, NoLeftJustify, PivotOneOff, RestingForgotten, TrimmedFirst, UnfitFirst,
+    NoLeapYear, NoLeftJustify, PivotOneOff, ReservedLast, RestingForgotten, RoomFirst,
+    TrimmedFirst, UnfitFirst, WideSlotUntold,
 };
 use outside::model::Rules;
 use outside::random::Random;
@@ -42,7 +43,7 @@ fn in_texts<R: Rules>(arguments: &Arguments) -> Found {
 
 /// The faults, by their names.
 type Search = fn(&Arguments) -> Found;
-const FAULTS: [(&str, Search); 12] = [
+const FAULTS: [(&str, Search); 15] = [
     ("91 days instead of 90", in_files::<NinetyOneDays>),
     ("clash without parity", in_files::<ClashWithoutParity>),
     ("no left-justify rule", in_files::<NoLeftJustify>),
@@ -61,6 +62,9 @@ const FAULTS: [(&str, Search); 12] = [
         "a check without the answers' length",
         in_files::<AnswersUnmeasured>,
     ),
+    ("widened with Reserved last", in_files::<ReservedLast>),
+    ("25 tried before 27", in_files::<RoomFirst>),
+    ("27 without its slot", in_files::<WideSlotUntold>),
     ("36 tried before 35", in_texts::<UnfitFirst>),
     (
         "values trimmed before they are too long",

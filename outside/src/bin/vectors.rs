@@ -1,13 +1,15 @@
 //! `vectors CALLS.. [DESK_FOLDER]`: runs every line of the calls files against
 //! the model and the library, before each apply the check that foretells it, and
-//! every desk vector against the model.
+//! every desk vector against the model; a record widened or narrowed, which no call
+//! shows alone, against the model.
 
 use outside::dates::day_read;
 use outside::face::Library;
 use outside::model::date::{day, Day};
-use outside::model::{desk::desk, Described};
+use outside::model::versions::{is_wide, narrow, widen};
+use outside::model::{desk::desk, Described, Version};
 use outside::subject::{Model, Subject};
-use outside::vectors::{parse, parse_date, Vector};
+use outside::vectors::{parse, parse_date, parse_reshaped, Reshaped, Vector};
 use std::path::Path;
 use std::process::ExitCode;
 
@@ -41,6 +43,18 @@ fn other_day(expected: Option<Day>, got: Result<Option<Day>, String>) -> Option<
     (got != Ok(expected)).then(|| format!("expected {expected:?}, got {got:?}"))
 }
 
+/// Where a record is not what the vector says in the other version and back.
+fn otherwise(vector: &Reshaped) -> Option<String> {
+    let rec = &vector.rec[..];
+    let (fits, back) = match vector.version {
+        Version::One => (true, narrow(&widen::<Described>(rec)).to_vec()),
+        Version::Two if is_wide(rec) => (false, rec.to_vec()),
+        Version::Two => (true, widen::<Described>(&narrow(rec)).to_vec()),
+    };
+    let same = fits == vector.fits && back == vector.back;
+    (!same).then(|| format!("expected {}, got {fits}, or other bytes", vector.fits))
+}
+
 fn calls(path: &Path, library: &mut Tally, model: &mut Tally) -> std::io::Result<()> {
     for (before, line) in std::fs::read_to_string(path)?.lines().enumerate() {
         let place = format!("{} line {}", path.display(), before + 1);
@@ -50,6 +64,8 @@ fn calls(path: &Path, library: &mut Tally, model: &mut Tally) -> std::io::Result
             let difference = read.or_else(|| other_day(expected, day_read(&MODEL, &date)));
             model.note(&place, difference);
             library.note(&place, other_day(expected, day_read(&Library, &date)));
+        } else if let Some(vector) = parse_reshaped(line) {
+            model.note(&place, otherwise(&vector));
         } else if let Some(vector) = parse(line) {
             for vector in [vector.check(), Some(vector)].iter().flatten() {
                 model.note(&place, against(&MODEL, vector, before));

@@ -2,12 +2,19 @@
 //! kept apart from the model: what was filed and answered, and nothing else.
 
 mod streets;
+mod wide;
 
 use crate::call::{Call, Op, Outcome};
-use crate::model::layout::{record, EDGE, EDGES, RECORD, REGISTER_SLOT, SLOT_HEAD};
+use crate::gen::NAME;
+use crate::model::layout::{record, REGISTER_SLOT, SLOT_HEAD};
+use crate::model::Version;
 use crate::subject::Subject;
 use std::collections::HashMap;
 use streets::Streets;
+use wide::{has_form, wide};
+
+/// No entry is later.
+const LAST_DATE: &[u8; 6] = b"123169";
 
 /// What a number's accepted records say of it.
 struct Entry {
@@ -25,6 +32,8 @@ pub struct History {
     entries: HashMap<Vec<u8>, Entry>,
     inserts: u64,
     deletes: u64,
+    /// Whether a record was accepted of each version.
+    accepted: [bool; 2],
 }
 
 fn number_of(whole: &[u8]) -> Vec<u8> {
@@ -45,14 +54,21 @@ impl History {
         if call.op != Op::ApplyData || outcome.refusal() != 0 {
             return Ok(());
         }
-        let records = call.lent[2][EDGE..].chunks_exact(RECORD);
+        let version = call.version;
+        let records = call.lent[2][version.edge()..].chunks_exact(version.record());
         let applied = outcome.returned[3] as usize;
         for (whole, &answer) in records.zip(&outcome.lent[3][..applied]) {
             if answer == 0 {
-                self.accept(whole)?;
+                self.accepted[version as usize] = true;
+                self.accept(&wide(version, whole))?;
             }
         }
         Ok(())
+    }
+
+    /// Whether files of both versions have a part in it.
+    pub fn is_of_both_versions(&self) -> bool {
+        self.accepted == [true; 2]
     }
 
     fn accept(&mut self, whole: &[u8]) -> Result<(), String> {
@@ -153,17 +169,31 @@ impl History {
     }
 }
 
-/// Demand 2's round trip: a load file taken into an empty register brings back
-/// every held and open entry but for its Function and Source.
+/// Demand 2's round trip, of "either version": a load file taken into an empty
+/// register brings back every held and open entry but for its Function and Source.
+/// Where an entry has no form in Version 1 there is no such file of it.
 pub fn round_trip(subject: &impl Subject, register: &[u8], guide: &[u8]) -> Result<(), String> {
-    const LAST_DATE: &[u8; 6] = b"123169";
-    let live: Vec<&[u8]> = register
-        .chunks_exact(REGISTER_SLOT)
-        .filter(|slot| matches!(slot[0], 1 | 2))
-        .map(|slot| &slot[SLOT_HEAD..])
-        .collect();
-    let mut file = vec![0; EDGES + live.len() * RECORD];
-    let loaded = subject.write_load(register, LAST_DATE, crate::gen::NAME, 1, &mut file);
+    Version::BOTH
+        .into_iter()
+        .try_for_each(|version| round_trip_of(version, subject, register, guide))
+}
+
+fn round_trip_of(
+    version: Version,
+    subject: &impl Subject,
+    register: &[u8],
+    guide: &[u8],
+) -> Result<(), String> {
+    let live = entries(register);
+    let mut file = vec![0; version.file(live.len())];
+    let loaded = subject.write_load(version, register, LAST_DATE, NAME, 1, &mut file);
+    let wide = live.iter().find(|(_, whole)| !has_form(version, whole));
+    if let Some((index, _)) = wide {
+        return demand(
+            (loaded.refusal, loaded.slot as usize) == (27, *index),
+            "an entry without a form in Version 1 is not told",
+        );
+    }
     demand(
         loaded.refusal == 0,
         "a sound register's load file is refused",
@@ -174,21 +204,35 @@ pub fn round_trip(subject: &impl Subject, register: &[u8], guide: &[u8]) -> Resu
     )?;
     let mut back = vec![0; live.len().max(1) * REGISTER_SLOT];
     let mut answers = vec![1; live.len()];
-    let taken = subject.apply_data(&mut back, guide, &file, &mut answers, 999_999);
+    let taken = subject.apply_data(version, &mut back, guide, &file, &mut answers, 999_999);
     demand(
         taken.refusal == 0 && taken.undone == 0,
         "the load file is not taken",
     )?;
-    for (slot, whole) in back.chunks_exact(REGISTER_SLOT).zip(live) {
-        let mut expected = whole.to_vec();
-        record::FUNCTION.of_mut(&mut expected)[0] = b'I';
-        record::SOURCE.of_mut(&mut expected)[0] = b'C';
-        demand(
-            slot[0] == 1 && slot[SLOT_HEAD..] == expected,
-            "an entry came back changed",
-        )?;
-    }
-    Ok(())
+    let back = back.chunks_exact(REGISTER_SLOT);
+    let mut pairs = back.zip(live.iter().map(|(_, whole)| *whole));
+    demand(
+        pairs.all(|(slot, whole)| is_back(slot, whole)),
+        "an entry came back changed",
+    )
+}
+
+/// The held and open records, with their slots.
+fn entries(register: &[u8]) -> Vec<(usize, &[u8])> {
+    register
+        .chunks_exact(REGISTER_SLOT)
+        .enumerate()
+        .filter(|(_, slot)| matches!(slot[0], 1 | 2))
+        .map(|(index, slot)| (index, &slot[SLOT_HEAD..]))
+        .collect()
+}
+
+/// Whether a slot holds this entry "but for its Function and Source".
+fn is_back(slot: &[u8], whole: &[u8]) -> bool {
+    let mut expected = whole.to_vec();
+    record::FUNCTION.of_mut(&mut expected)[0] = b'I';
+    record::SOURCE.of_mut(&mut expected)[0] = b'C';
+    slot[0] == 1 && slot[SLOT_HEAD..] == expected
 }
 
 #[cfg(test)]

@@ -2,8 +2,10 @@
 
 use super::{World, NAME};
 use crate::call::{Call, Op};
-use crate::model::layout::{EDGE, RECORD, REGISTER_SLOT};
+use crate::model::date::Reading;
+use crate::model::layout::REGISTER_SLOT;
 use crate::model::store::{is_live, slot_day};
+use crate::model::Version;
 
 /// What an answers or out buffer holds before the call.
 const FILLER: u8 = 0xee;
@@ -19,8 +21,16 @@ impl World {
         }
     }
 
+    /// The version of the next data or load file; old worlds knew Version 2 alone.
+    fn some_version(&mut self) -> Version {
+        match self.reading {
+            Reading::Present if self.random.chance(40) => Version::One,
+            _ => Version::Two,
+        }
+    }
+
     /// An apply of this file to the stores as they are.
-    pub fn apply(&self, op: Op, file: Vec<u8>, answers: usize) -> Call {
+    pub fn apply(&self, op: Op, version: Version, file: Vec<u8>, answers: usize) -> Call {
         let given = if op.has_records() {
             self.last_data
         } else {
@@ -29,17 +39,24 @@ impl World {
         let answers = vec![FILLER; answers];
         Call {
             op,
+            version,
             given,
             lent: vec![self.register.clone(), self.guide.clone(), file, answers],
         }
     }
 
-    /// An apply of a data file.
+    /// An apply of a data file of either version.
     pub fn apply_data(&mut self) -> Call {
+        let version = self.some_version();
+        self.apply_data_of(version)
+    }
+
+    /// An apply of a data file of this version.
+    pub fn apply_data_of(&mut self, version: Version) -> Call {
         let count = self.some_count();
-        let file = self.data_file(count);
+        let file = self.data_file(version, count);
         let more = self.random.pick(&[0, 0, 1, 7]);
-        self.apply(Op::ApplyData, file, count + more)
+        self.apply(Op::ApplyData, version, file, count + more)
     }
 
     /// An apply of a guide file.
@@ -47,7 +64,7 @@ impl World {
         let count = self.some_count().min(4200);
         let file = self.guide_file(count);
         let more = self.random.pick(&[0, 0, 1, 7]);
-        self.apply(Op::ApplyGuide, file, count + more)
+        self.apply(Op::ApplyGuide, Version::Two, file, count + more)
     }
 
     /// A lookup of a number that may be there.
@@ -56,14 +73,21 @@ impl World {
         let number = self.some_slot().map_or(fresh, |slot| slot.2.to_vec());
         Call {
             op: Op::Lookup,
+            version: Version::Two,
             given: 0,
             lent: vec![self.register.clone(), number],
         }
     }
 
+    /// The writing of a load file of either version.
+    pub fn write_load(&mut self) -> Call {
+        let version = self.some_version();
+        self.write_load_of(version)
+    }
+
     /// The writing of a load file: mostly on a day that allows it, with just
     /// enough room, one byte too little, or more.
-    pub fn write_load(&mut self) -> Call {
+    pub fn write_load_of(&mut self, version: Version) -> Call {
         let entries = || {
             self.register
                 .chunks_exact(REGISTER_SLOT)
@@ -77,12 +101,13 @@ impl World {
             2 => self.edge_day(),
             _ => newest.max(self.today),
         };
-        let need = 2 * EDGE + count * RECORD;
+        let need = version.file(count);
         let room = self
             .random
             .pick(&[need, need, need + 1, need + 300, need - 1]);
         Call {
             op: Op::WriteLoad,
+            version,
             given: self.random.pick(&[1, 9, 10, 42, 99_999, 999_999]),
             lent: vec![
                 self.register.clone(),

@@ -2,8 +2,9 @@
 
 use super::{put, World};
 use crate::model::form::number;
-use crate::model::layout::{record, row, Blank, Field, Form, RECORD, ROW};
+use crate::model::layout::{narrow, record, row, Blank, Field, Form, RECORD, ROW};
 use crate::model::store::{HELD, OPEN};
+use crate::model::{versions, Described};
 
 const COMPANIES: [&str; 4] = ["ABC", "XYZ12", "7", "ABCDE"];
 /// Two of them are one number.
@@ -11,18 +12,21 @@ const ESNS: [&str; 4] = ["83", "083", "1", "99999"];
 
 impl World {
     /// A street's fields, by place in record or row. Streets 0 to 3 differ in
-    /// one field each.
+    /// one field each; of 4 and 5 one has as many bytes as a record of Version 1
+    /// has room for, and one a byte more.
     fn street(&mut self) -> [String; 6] {
         let which = self.random.below(self.streets);
-        let name = if which < 4 {
-            "MAIN".to_string()
-        } else {
-            format!("OAK {which}")
+        let most = narrow::record::STREET.length();
+        let name = match which {
+            0..4 => "MAIN".to_string(),
+            4 => "L".repeat(most),
+            5 => "L".repeat(most + 1),
+            _ => format!("OAK {which}"),
         };
         let prefix = if which == 1 { "N" } else { "" };
         let suffix = if which == 2 { "AV" } else { "ST" };
         let community = if which == 3 { "Salem" } else { "SALEM" };
-        let post = if which % 8 == 5 { "SE" } else { "" };
+        let post = if which % 8 == 7 { "SE" } else { "" };
         let state = if which % 8 == 6 { "WA" } else { "OR" };
         [prefix, &name, suffix, post, community, state].map(str::to_string)
     }
@@ -145,6 +149,22 @@ impl World {
         }
     }
 
+    /// Fills a field as far as Version 1 has bytes for it, or a byte further, or
+    /// writes only where it has none.
+    fn put_to_the_edge(&mut self, whole: &mut [u8]) {
+        let (field, most) = self.random.pick(&[
+            (record::LOCATION, narrow::record::LOCATION.length()),
+            (record::RESERVED, narrow::record::RESERVED.length()),
+            (record::CUSTOMER_CODE, 0),
+            (record::TAR, 0),
+        ]);
+        let length = most + self.random.below(2);
+        put(whole, field, &vec![b'e'; length]);
+        if self.random.chance(10) {
+            whole[record::RESERVED.last - 1] = b'e';
+        }
+    }
+
     /// A record of good form for a file of today.
     pub fn record(&mut self) -> [u8; RECORD] {
         let mut whole = [b' '; RECORD];
@@ -192,9 +212,20 @@ impl World {
             );
             put(&mut whole, record::TYPE, self.random.pick(&[b"0", b"5"]));
         }
-        if self.random.chance(10) {
-            self.put_extras(&mut whole);
+        match self.random.below(10) {
+            0 => self.put_extras(&mut whole),
+            1 => self.put_to_the_edge(&mut whole),
+            _ => {}
         }
-        whole
+        self.held_to(whole)
+    }
+
+    /// The record, or what Version 1 has of it where every record has its form.
+    fn held_to(&self, whole: [u8; RECORD]) -> [u8; RECORD] {
+        if self.narrow {
+            versions::widen::<Described>(&versions::narrow(&whole))
+        } else {
+            whole
+        }
     }
 }

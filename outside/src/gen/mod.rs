@@ -11,10 +11,11 @@ mod tagged;
 use crate::call::Op;
 use crate::model::date::{date_of, day, Day, Reading, LAST_DAY};
 use crate::model::layout::{
-    header, record, trailer, Field, EDGE, GUIDE_SLOT, REGISTER_SLOT, SLOT_HEAD,
+    header, record, trailer, Field, GUIDE_SLOT, NARROW_RECORD, RECORD, REGISTER_SLOT, SLOT_HEAD,
 };
 use crate::model::store::{slot_day, slot_number, slot_record, RESTING};
-use crate::model::{Described, Former};
+use crate::model::versions::narrow;
+use crate::model::{Described, Former, Version};
 use crate::random::Random;
 
 /// The company name of every file.
@@ -51,6 +52,8 @@ pub struct World {
     /// The last day that a file of its is dated.
     last_day: u32,
     today: u32,
+    /// Whether every record of its has a form in Version 1.
+    narrow: bool,
     numbers: usize,
     streets: usize,
     houses: u32,
@@ -63,23 +66,39 @@ pub fn put(whole: &mut [u8], field: Field, text: &[u8]) {
     bytes[..text.len()].copy_from_slice(text);
 }
 
-/// A file of these records or rows, whole.
+/// A file of these rows, or of these records of Version 2, whole.
 pub fn file(date: &[u8; 6], cycle: u32, records: &[u8], count: usize) -> Vec<u8> {
-    let mut file = vec![b' '; EDGE];
-    put(&mut file, header::MARK, b"UHL");
-    put(&mut file, header::DATE, date);
-    put(&mut file, header::NAME, NAME);
-    put(&mut file, header::CYCLE, cycle.to_string().as_bytes());
-    put(&mut file, header::STAR, b"*");
-    file.extend_from_slice(records);
-    let mut tail = vec![b' '; EDGE];
-    put(&mut tail, trailer::MARK, b"UTL");
-    put(&mut tail, trailer::DATE, date);
-    put(&mut tail, trailer::NAME, NAME);
-    put(&mut tail, trailer::COUNT, format!("{count:>9}").as_bytes());
-    put(&mut tail, trailer::STAR, b"*");
-    file.extend_from_slice(&tail);
-    file
+    file_of(Version::Two, date, cycle, records, count)
+}
+
+/// A file of these records of a version, whole.
+pub fn file_of(
+    version: Version,
+    date: &[u8; 6],
+    cycle: u32,
+    records: &[u8],
+    count: usize,
+) -> Vec<u8> {
+    let edge = |mark: &[u8], field, number: &str| {
+        let mut edge = vec![b' '; version.edge()];
+        put(&mut edge, header::MARK, mark);
+        put(&mut edge, header::DATE, date);
+        put(&mut edge, header::NAME, NAME);
+        put(&mut edge, field, number.as_bytes());
+        edge[version.edge() - 1] = b'*';
+        edge
+    };
+    let head = edge(b"UHL", header::CYCLE, &cycle.to_string());
+    let tail = edge(b"UTL", trailer::COUNT, &format!("{count:>9}"));
+    [&head, records, &tail].concat()
+}
+
+/// Records of Version 2 as records of a version: of Version 1 what it has of them.
+pub fn records_of(version: Version, records: &[[u8; RECORD]]) -> Vec<u8> {
+    match version {
+        Version::One => records.iter().flat_map(|whole| narrow(whole)).collect(),
+        Version::Two => records.concat(),
+    }
 }
 
 /// The cycle after this one.
@@ -126,8 +145,9 @@ impl World {
             last_data: 0,
             last_guide: 0,
             today,
+            narrow: random.chance(40),
             numbers: slots + slots / 4 + 2,
-            streets: if rows > 64 { 48 } else { 4 },
+            streets: if rows > 64 { 48 } else { 6 },
             houses: if rows > 64 { 4000 } else { 40 },
             random,
         }
@@ -188,15 +208,25 @@ impl World {
     }
 
     /// A data file of n records for the stores as they are.
-    pub fn data_file(&mut self, count: usize) -> Vec<u8> {
+    pub fn data_file(&mut self, version: Version, count: usize) -> Vec<u8> {
         self.go_on();
-        let records: Vec<u8> = (0..count).flat_map(|_| self.record()).collect();
-        file(
-            &self.date(self.today),
-            next_cycle(self.last_data),
-            &records,
-            count,
-        )
+        let records: Vec<u8> = match version {
+            Version::One => (0..count).flat_map(|_| self.narrow_record()).collect(),
+            Version::Two => (0..count).flat_map(|_| self.record()).collect(),
+        };
+        let date = self.date(self.today);
+        file_of(version, &date, next_cycle(self.last_data), &records, count)
+    }
+
+    /// A record of Version 1, which has no U and no M: D and C stand in for them.
+    fn narrow_record(&mut self) -> [u8; NARROW_RECORD] {
+        let mut whole = narrow(&self.record());
+        whole[0] = match whole[0] {
+            b'U' => b'D',
+            b'M' => b'C',
+            code => code,
+        };
+        whole
     }
 
     /// A guide file of n rows for the stores as they are.

@@ -9,6 +9,7 @@ use super::rules::{Described, Former};
 use super::store::{register_sound, slot_day};
 use super::{
     apply_data, apply_guide, convert_register, lookup, write_load, Converted, Found, Loaded, Taken,
+    Version,
 };
 use crate::gen::{file, put, NAME};
 
@@ -74,14 +75,15 @@ fn a_guide() -> Vec<u8> {
 fn answers(register: &mut [u8], date: &[u8; 6], records: &[[u8; RECORD]]) -> Vec<u8> {
     let mut answers = vec![0xee; records.len()];
     let all = file(date, 1, &records.concat(), records.len());
-    let taken = apply_data::<Described>(register, &a_guide(), &all, &mut answers, 0);
+    let guide = a_guide();
+    let taken = apply_data::<Described>(Version::Two, register, &guide, &all, &mut answers, 0);
     assert_eq!(taken.refusal, 0);
     answers
 }
 
 /// The answer to one record on an empty register of one slot.
 fn fault(changes: &[(Field, &str)]) -> Option<usize> {
-    record_fault::<Described>(&a_record(changes))
+    record_fault::<Described>(Version::Two, &a_record(changes))
 }
 
 #[test]
@@ -257,7 +259,8 @@ fn a_fault_in_the_last_record_leaves_everything() {
     let records = [a_record(&[]), a_record(&[(record::STAR, " ")])].concat();
     let (mut register, mut answers) = (vec![0; REGISTER_SLOT], [0xee; 2]);
     let all = file(b"010100", 1, &records, 2);
-    let taken = apply_data::<Described>(&mut register, &a_guide(), &all, &mut answers, 0);
+    let (version, guide) = (Version::Two, a_guide());
+    let taken = apply_data::<Described>(version, &mut register, &guide, &all, &mut answers, 0);
     let expected = Taken {
         refusal: 9,
         place: 2,
@@ -283,21 +286,22 @@ fn lookup_and_load_file() {
     assert_eq!(lookup(&register, b"503555010"), found(10, 0, 0, 0));
     assert_eq!(lookup(&register[1..], b"5035550100"), found(1, 0, 0, 0));
     let mut out = [0xee; 913];
-    let loaded = write_load::<Described>(&register, b"010100", NAME, 7, &mut out);
+    let loaded = write_load::<Described>(Version::Two, &register, b"010100", NAME, 7, &mut out);
     let (bytes, entries) = (912, 1);
     assert_eq!(
         loaded,
         Loaded {
-            refusal: 0,
             bytes,
-            entries
+            entries,
+            ..Loaded::default()
         }
     );
     let filed = a_record(&[(record::SOURCE, "C"), (record::ESN, "83")]);
     assert_eq!(out[..912], file(b"010100", 7, &filed, 1));
     assert_eq!(out[912], 0xee);
     let refusal = |cycle, room: usize| {
-        write_load::<Described>(&register, b"010100", NAME, cycle, &mut [0; 912][..room]).refusal
+        let out = &mut [0; 912][..room];
+        write_load::<Described>(Version::Two, &register, b"010100", NAME, cycle, out).refusal
     };
     assert_eq!([refusal(1, 911), refusal(0, 911)], [25, 26]);
 }
@@ -421,7 +425,7 @@ fn load_files_across_the_century() {
     let register = a_slot(1, 10957, "010100");
     let refusal = |date: &[u8; 6]| {
         let mut out = [0xee; 912];
-        write_load::<Described>(&register, date, NAME, 1, &mut out).refusal
+        write_load::<Described>(Version::Two, &register, date, NAME, 1, &mut out).refusal
     };
     let dates = [b"123199", b"010100", b"010101"];
     assert_eq!(dates.map(refusal), [26, 0, 0]);

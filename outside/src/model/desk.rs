@@ -3,7 +3,7 @@
 use super::layout::{GUIDE_SLOT, MOST_RECORDS, REGISTER_SLOT};
 use super::results::Taken;
 use super::rules::Described;
-use super::{apply_data, apply_guide, lookup};
+use super::{apply_data, apply_guide, lookup, Version};
 
 /// Slots of each kind.
 pub const SLOTS: usize = 64;
@@ -103,8 +103,10 @@ impl Desk {
     fn data_file(&mut self, output: &mut Vec<u8>) {
         let file = std::mem::take(&mut self.collected);
         let mut answers = [0; MOST_RECORDS];
-        let (register, guide) = (&mut self.register, &self.guide);
-        let taken = apply_data::<Described>(register, guide, &file, &mut answers, self.last_data);
+        let (register, guide, last) = (&mut self.register, &self.guide, self.last_data);
+        // No code of the desk names a version.
+        let version = Version::Two;
+        let taken = apply_data::<Described>(version, register, guide, &file, &mut answers, last);
         self.last_data = taken.last;
         tell(&taken, &answers, output);
     }

@@ -2,10 +2,11 @@
 
 use super::date::{day, follows, Day};
 use super::form::{header_cycle, trailer_count};
-use super::layout::{header, trailer, EDGE, EDGES, MOST_RECORDS};
+use super::layout::{header, trailer, MOST_RECORDS};
 use super::results::Taken;
 use super::rules::Rules;
 use super::store::{guide_sound, register_sound};
+use super::versions::Version;
 
 /// A file that is not refused.
 pub struct File<'a> {
@@ -19,8 +20,10 @@ pub struct File<'a> {
     pub count: usize,
 }
 
-/// What a data file and a guide file differ in.
+/// What data files of either version and guide files differ in.
 pub struct Kind {
+    /// Whose header and trailer it has: a guide file has those of Version 2.
+    pub version: Version,
     /// Bytes of a record.
     pub size: usize,
     /// Where a record breaks a field rule.
@@ -38,9 +41,10 @@ fn refused(refusal: u32, last: u32) -> Taken {
 }
 
 /// n, if the length is that of a file of n records.
-fn records_in(length: usize, size: usize) -> Option<usize> {
-    let records = length.checked_sub(EDGES)?;
-    (records % size == 0 && records / size <= MOST_RECORDS).then_some(records / size)
+fn records_in(length: usize, kind: &Kind) -> Option<usize> {
+    let records = length.checked_sub(kind.version.file(0))?;
+    let count = records / kind.size;
+    (records % kind.size == 0 && count <= MOST_RECORDS).then_some(count)
 }
 
 /// "They are tried in this order, and the first decides."
@@ -58,27 +62,12 @@ pub fn examine<'a, R: Rules>(
     if !guide_sound::<R>(guide) {
         return Err(refused(2, last));
     }
-    let count = records_in(file.len(), kind.size).ok_or(refused(3, last))?;
+    let count = records_in(file.len(), kind).ok_or(refused(3, last))?;
     if answers < count {
         return Err(refused(4, last));
     }
-    let (head, rest) = file.split_at(EDGE);
-    let (records, tail) = rest.split_at(rest.len() - EDGE);
-    let cycle = header_cycle::<R>(head).ok_or(refused(5, last))?;
-    let date = day::<R>(header::DATE.of(head)).ok_or(refused(5, last))?;
-    if !follows::<R>(cycle, last) {
-        return Err(refused(6, last));
-    }
-    let counted = trailer_count::<R>(tail).ok_or(refused(7, last))?;
-    if trailer::DATE.of(tail) != header::DATE.of(head)
-        || trailer::NAME.of(tail) != header::NAME.of(head)
-    {
-        return Err(refused(7, last));
-    }
-    if counted.0 as usize != count {
-        return Err(refused(8, last));
-    }
-    for (before, record) in records.chunks_exact(kind.size).enumerate() {
+    let file = framed::<R>(kind, file, count, last)?;
+    for (before, record) in file.records.chunks_exact(kind.size).enumerate() {
         if let Some(position) = (kind.fault)(record) {
             return Err(Taken {
                 place: before as u32 + 1,
@@ -86,6 +75,33 @@ pub fn examine<'a, R: Rules>(
                 ..refused(9, last)
             });
         }
+    }
+    Ok(file)
+}
+
+/// A file of so many records with a good header and trailer: refusals 5 to 8.
+fn framed<'a, R: Rules>(
+    kind: &Kind,
+    file: &'a [u8],
+    count: usize,
+    last: u32,
+) -> Result<File<'a>, Taken> {
+    let edge = kind.version.edge();
+    let (head, rest) = file.split_at(edge);
+    let (records, tail) = rest.split_at(rest.len() - edge);
+    let cycle = header_cycle::<R>(kind.version, head).ok_or(refused(5, last))?;
+    let date = day::<R>(header::DATE.of(head)).ok_or(refused(5, last))?;
+    if !follows::<R>(cycle, last) {
+        return Err(refused(6, last));
+    }
+    let counted = trailer_count::<R>(kind.version, tail).ok_or(refused(7, last))?;
+    if trailer::DATE.of(tail) != header::DATE.of(head)
+        || trailer::NAME.of(tail) != header::NAME.of(head)
+    {
+        return Err(refused(7, last));
+    }
+    if counted.0 as usize != count {
+        return Err(refused(8, last));
     }
     Ok(File {
         date,

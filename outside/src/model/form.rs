@@ -1,8 +1,12 @@
 //! Field rules: the first fault of a record, row, header or trailer.
 
 use super::date::{day, Count, Cycle};
-use super::layout::{header, record, row, trailer, Blank, Field, Form, Test, EDGE, RECORD, ROW};
+use super::layout::{
+    header, narrow, record, row, trailer, Blank, Field, Form, Test, EDGE, NARROW_EDGE,
+    NARROW_RECORD, RECORD, ROW,
+};
 use super::rules::Rules;
+use super::versions::Version;
 use std::marker::PhantomData;
 
 /// As many spaces as the longest field has bytes.
@@ -160,10 +164,17 @@ impl<R: Rules> Test for RowRules<'_, R> {
     }
 }
 
-/// Where a data record breaks a field rule.
-pub fn record_fault<R: Rules>(whole: &[u8]) -> Option<usize> {
+/// Where a data record breaks a field rule, "positions being Version 1's" in one
+/// of Version 1.
+#[inline]
+pub fn record_fault<R: Rules>(version: Version, whole: &[u8]) -> Option<usize> {
     let lax = matches!(whole[0], b'D' | b'U');
-    record::first_fault(&FieldRules::<R, RECORD>::new(whole, lax))
+    match version {
+        Version::One => {
+            narrow::record::first_fault(&FieldRules::<R, NARROW_RECORD>::new(whole, lax))
+        }
+        Version::Two => record::first_fault(&FieldRules::<R, RECORD>::new(whole, lax)),
+    }
 }
 
 /// Where a guide row breaks a field rule.
@@ -182,15 +193,26 @@ pub fn parity_allows(parity: u8, house: u32) -> bool {
 }
 
 /// The cycle of a header of good form: "value 1 to 999999".
-pub fn header_cycle<R: Rules>(whole: &[u8]) -> Option<Cycle> {
-    let fault = header::first_fault(&FieldRules::<R, EDGE>::new(whole, false));
+pub fn header_cycle<R: Rules>(version: Version, whole: &[u8]) -> Option<Cycle> {
+    let fault = match version {
+        Version::One => {
+            narrow::header::first_fault(&FieldRules::<R, NARROW_EDGE>::new(whole, false))
+        }
+        Version::Two => header::first_fault(&FieldRules::<R, EDGE>::new(whole, false)),
+    };
     let cycle = number(header::CYCLE.of(whole));
     (fault.is_none() && cycle > 0).then_some(Cycle(cycle))
 }
 
 /// The record count of a trailer of good form.
-pub fn trailer_count<R: Rules>(whole: &[u8]) -> Option<Count> {
-    match trailer::first_fault(&FieldRules::<R, EDGE>::new(whole, false)) {
+pub fn trailer_count<R: Rules>(version: Version, whole: &[u8]) -> Option<Count> {
+    let fault = match version {
+        Version::One => {
+            narrow::trailer::first_fault(&FieldRules::<R, NARROW_EDGE>::new(whole, false))
+        }
+        Version::Two => trailer::first_fault(&FieldRules::<R, EDGE>::new(whole, false)),
+    };
+    match fault {
         None => count(trailer::COUNT.of(whole)),
         Some(_) => None,
     }

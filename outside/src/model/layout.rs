@@ -1,14 +1,16 @@
 //! The layouts as tables. "The positions are one constant table that reading,
 //! checking and writing all use."
 
-/// Bytes of a data record.
+/// Bytes of a data record of Version 2, and of every record that is stored.
 pub const RECORD: usize = 512;
+/// Bytes of a data record of Version 1.
+pub const NARROW_RECORD: usize = 240;
 /// Bytes of a guide row.
 pub const ROW: usize = 200;
 /// Bytes of a header, and of a trailer.
 pub const EDGE: usize = 200;
-/// Bytes of a file of no records: header and trailer.
-pub const EDGES: usize = 2 * EDGE;
+/// The same in Version 1.
+pub const NARROW_EDGE: usize = 160;
 /// "A file has 0 to 9999 records."
 pub const MOST_RECORDS: usize = 9999;
 /// "Register and guide have 1 to 4096 slots each."
@@ -130,7 +132,26 @@ macro_rules! layout {
     };
 }
 
-/// The data record's fields (Exhibit 5, positions decide).
+/// A layout of Version 1, each field beside the one of Version 2 that it is.
+macro_rules! narrow_layout {
+    ($(#[$doc:meta])* $table:ident, $count:literal, $wide:path:
+     $($id:ident $name:literal $first:literal $last:literal $form:expr, $blank:ident;)*) => {
+        layout! {
+            $(#[$doc])* $table, $count:
+            $($id $name $first $last $form, $blank;)*
+        }
+
+        /// Every field and the field of Version 2 that it is: the table written
+        /// out, so that each copy is made for its length.
+        #[inline(always)]
+        pub fn each_with_wide(mut visit: impl FnMut(Field, Field)) {
+            use $wide as wide;
+            $(visit($id, wide::$id);)*
+        }
+    };
+}
+
+/// The data record's fields in Version 2 (Exhibit 5, positions decide).
 pub mod record {
     use super::{Blank, Field, Form, Test};
     layout! {
@@ -228,6 +249,79 @@ pub mod trailer {
     }
 }
 
+/// "The 240-byte record of document 003, Exhibit 1, with 160-byte header and
+/// trailer: ours, with the free part shortened."
+pub mod narrow {
+    /// The data record's fields in Version 1: eight of Version 2 are not among
+    /// them, and Street Name, Location and Reserved are shorter.
+    pub mod record {
+        use super::super::{Blank, Field, Form, Test};
+        narrow_layout! {
+            /// All fields of the data record. "Version 1 knows only C, D and I."
+            FIELDS, 29, super::super::record:
+            FUNCTION "Function" 1 1 Form::OneOf(b"CDI"), Never;
+            NPA "NPA" 2 4 Form::AllDigits, Never;
+            CALLING_NUMBER "Calling Number" 5 11 Form::AllDigits, Never;
+            HOUSE "House Number" 12 21 Form::Digits(8), May;
+            HOUSE_SUFFIX "House Suffix" 22 25 Form::Text, May;
+            PREFIX "Prefix Directional" 26 27 Form::Directional, May;
+            STREET "Street Name" 28 67 Form::Text, OnlyInDAndU;
+            SUFFIX "Street Suffix" 68 71 Form::Text, May;
+            POST "Post Directional" 72 73 Form::Directional, May;
+            COMMUNITY "Community" 74 105 Form::Text, OnlyInDAndU;
+            STATE "State" 106 107 Form::Capitals, OnlyInDAndU;
+            LOCATION "Location" 108 127 Form::Text, May;
+            CUSTOMER_NAME "Customer Name" 128 159 Form::Text, May;
+            CLASS "Class" 160 160 Form::DigitTo(b'9'), OnlyInDAndU;
+            TYPE "Type" 161 161 Form::DigitTo(b'5'), OnlyInDAndU;
+            EXCHANGE "Exchange" 162 165 Form::Text, May;
+            ESN "ESN" 166 170 Form::Digits(5), May;
+            MAIN_NPA "Main NPA" 171 173 Form::Text, May;
+            MAIN_NUMBER "Main Number" 174 180 Form::Text, May;
+            ORDER "Order" 181 190 Form::Text, May;
+            DATE "Date" 191 196 Form::Date, Never;
+            COUNTY "County" 197 200 Form::Text, May;
+            COMPANY_ID "Company ID" 201 205 Form::CompanyId, Never;
+            SOURCE "Source" 206 206 Form::OneOf(b"C"), May;
+            ZIP "Zip" 207 211 Form::Text, May;
+            ZIP4 "Zip+4" 212 215 Form::Text, May;
+            GENERAL_USE "General Use" 216 226 Form::Free, May;
+            RESERVED "Reserved" 227 239 Form::Free, May;
+            STAR "*" 240 240 Form::OneOf(b"*"), Never;
+        }
+    }
+
+    /// The header's fields.
+    pub mod header {
+        use super::super::{Blank, Field, Form, Test};
+        layout! {
+            /// All fields of the header.
+            FIELDS, 6:
+            MARK "UHL" 1 5 Form::Mark(b"UHL  "), Never;
+            DATE "date" 6 11 Form::Date, Never;
+            NAME "company name" 12 61 Form::Text, Never;
+            CYCLE "cycle" 62 67 Form::Digits(6), Never;
+            FREE "free" 68 159 Form::Free, May;
+            STAR "*" 160 160 Form::OneOf(b"*"), Never;
+        }
+    }
+
+    /// The trailer's fields.
+    pub mod trailer {
+        use super::super::{Blank, Field, Form, Test};
+        layout! {
+            /// All fields of the trailer.
+            FIELDS, 6:
+            MARK "UTL" 1 5 Form::Mark(b"UTL  "), Never;
+            DATE "date" 6 11 Form::Date, Never;
+            NAME "name" 12 61 Form::Text, Never;
+            COUNT "record count" 62 70 Form::Count, Never;
+            FREE "free" 71 159 Form::Free, May;
+            STAR "*" 160 160 Form::OneOf(b"*"), Never;
+        }
+    }
+}
+
 #[cfg(test)]
 mod tests {
     use super::*;
@@ -247,5 +341,14 @@ mod tests {
         tiles(&row::FIELDS, ROW);
         tiles(&header::FIELDS, EDGE);
         tiles(&trailer::FIELDS, EDGE);
+        tiles(&narrow::record::FIELDS, NARROW_RECORD);
+        tiles(&narrow::header::FIELDS, NARROW_EDGE);
+        tiles(&narrow::trailer::FIELDS, NARROW_EDGE);
+    }
+
+    #[test]
+    fn header_and_trailer_differ_in_their_free_part_alone() {
+        assert_eq!(header::FIELDS[..4], narrow::header::FIELDS[..4]);
+        assert_eq!(trailer::FIELDS[..4], narrow::trailer::FIELDS[..4]);
     }
 }

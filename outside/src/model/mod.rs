@@ -16,6 +16,7 @@ pub mod rules;
 pub mod store;
 pub mod tagged;
 pub mod take;
+pub mod versions;
 
 #[cfg(test)]
 mod cases;
@@ -29,3 +30,4 @@ pub use results::{Converted, Found, Loaded, Tagged, Taken};
 pub use rules::{Described, Former, Rules};
 pub use tagged::{read_tagged, write_tagged};
 pub use take::{apply_data, apply_guide, check_data, check_guide};
+pub use versions::Version;

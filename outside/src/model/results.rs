@@ -1,4 +1,4 @@
-//! What the nine functions give back.
+//! What the functions give back.
 
 /// The answer to a check and to an apply.
 #[repr(C)]
@@ -30,6 +30,9 @@ pub struct Loaded {
     pub bytes: u32,
     /// Entries written.
     pub entries: u32,
+    /// The lowest entry's slot, from 0, that has no form in Version 1; only in
+    /// refusal 27.
+    pub slot: u32,
 }
 
 /// The answer to a lookup.

@@ -5,7 +5,7 @@
 use super::date::Reading;
 use std::marker::PhantomData;
 
-/// What the description decides at the twelve places, and how dates are read.
+/// What the description decides at the fifteen places, and how dates are read.
 pub trait Rules {
     /// Days after which another number may have a resting slot.
     const RESTING_DAYS: u32 = 90;
@@ -31,6 +31,12 @@ pub trait Rules {
     const CHECK_KEEPS_LAST: bool = true;
     /// Whether a check is refused by 4 too.
     const CHECK_MEASURES_ANSWERS: bool = true;
+    /// Of a Version 1 record widened: "the 13 Reserved bytes first".
+    const RESERVED_FIRST: bool = true;
+    /// Of a load file: 27 "after 26 and before 25".
+    const WIDE_FIRST: bool = true;
+    /// 27 "with the lowest such entry's slot".
+    const WIDE_SLOT_TOLD: bool = true;
     /// How dates are read.
     const READING: Reading = Reading::Present;
 }
@@ -54,6 +60,9 @@ impl<R: Rules> Rules for Former<R> {
     const FIRST_CPD_YEAR: u32 = R::FIRST_CPD_YEAR;
     const CHECK_KEEPS_LAST: bool = R::CHECK_KEEPS_LAST;
     const CHECK_MEASURES_ANSWERS: bool = R::CHECK_MEASURES_ANSWERS;
+    const RESERVED_FIRST: bool = R::RESERVED_FIRST;
+    const WIDE_FIRST: bool = R::WIDE_FIRST;
+    const WIDE_SLOT_TOLD: bool = R::WIDE_SLOT_TOLD;
     const READING: Reading = Reading::Former;
 }
 
@@ -127,4 +136,22 @@ impl Rules for CycleFromCheck {
 pub struct AnswersUnmeasured;
 impl Rules for AnswersUnmeasured {
     const CHECK_MEASURES_ANSWERS: bool = false;
+}
+
+/// Fault: a record is widened with its Reserved bytes last.
+pub struct ReservedLast;
+impl Rules for ReservedLast {
+    const RESERVED_FIRST: bool = false;
+}
+
+/// Fault: a load file's room is told before an entry without a Version 1 form.
+pub struct RoomFirst;
+impl Rules for RoomFirst {
+    const WIDE_FIRST: bool = false;
+}
+
+/// Fault: no slot is told with 27.
+pub struct WideSlotUntold;
+impl Rules for WideSlotUntold {
+    const WIDE_SLOT_TOLD: bool = false;
 }

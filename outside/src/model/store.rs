@@ -4,6 +4,7 @@ use super::date::{day, Day, LAST_DAY};
 use super::form::{blank, record_fault, row_fault};
 use super::layout::{record, row, GUIDE_SLOT, MOST_SLOTS, REGISTER_SLOT, SLOT_HEAD};
 use super::rules::Rules;
+use super::versions::Version;
 
 /// A slot's state byte.
 pub const FREE: u8 = 0;
@@ -86,7 +87,7 @@ fn slot_sound<R: Rules>(slot: &[u8]) -> bool {
     slot[0] <= RESTING
         && slot[5..SLOT_HEAD] == [0, 0, 0]
         && matches!(whole[0], b'I' | b'C' | b'M')
-        && record_fault::<R>(whole).is_none()
+        && record_fault::<R>(Version::Two, whole).is_none()
         && !blank(record::ESN.of(whole))
         && day::<R>(record::DATE.of(whole)).is_some_and(|filed| {
             let since = slot_day(slot);

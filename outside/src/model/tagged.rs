@@ -5,6 +5,7 @@ use super::form::{blank, record_fault};
 use super::layout::{record, Field, RECORD};
 use super::results::Tagged;
 use super::rules::Rules;
+use super::versions::Version;
 use Wording::{CalendarDate, Plain, Postal, TenDigits};
 
 /// What every text begins with.
@@ -136,7 +137,7 @@ pub fn read_tagged<R: Rules>(text: &[u8], out: &mut [u8]) -> Tagged {
         Ok(whole) => whole,
         Err(refusal) => return refused(refusal),
     };
-    if let Some(position) = record_fault::<R>(&whole) {
+    if let Some(position) = record_fault::<R>(Version::Two, &whole) {
         return faulty(position);
     }
     let Some(out) = out.get_mut(..RECORD) else {
@@ -263,7 +264,7 @@ pub fn write_tagged<R: Rules>(whole: &[u8], out: &mut [u8]) -> Tagged {
     if whole.len() != RECORD {
         return refused(9);
     }
-    if let Some(position) = record_fault::<R>(whole) {
+    if let Some(position) = record_fault::<R>(Version::Two, whole) {
         return faulty(position);
     }
     if !has_tagged_form(whole) {

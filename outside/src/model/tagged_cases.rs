@@ -5,7 +5,7 @@ use super::form::record_fault;
 use super::layout::{record, Field, RECORD};
 use super::rules::Described;
 use super::tagged::{Tag, LABELS, TAGS, UNLABELLED};
-use super::{read_tagged, write_tagged, Tagged};
+use super::{read_tagged, write_tagged, Tagged, Version};
 use crate::gen::put;
 
 /// The text that most cases change.
@@ -296,7 +296,7 @@ fn a_record_of_full_fields_is_the_longest_text() {
         let length = if tag.label == *b"HNO" { 8 } else { full };
         bytes[..length].fill(filled[0]);
     }
-    assert_eq!(record_fault::<Described>(&whole), None);
+    assert_eq!(record_fault::<Described>(Version::Two, &whole), None);
     let mut out = [0; 450];
     assert_eq!(write_tagged::<Described>(&whole, &mut out).bytes, 450);
     is_not_written(&whole, 449, 25, 0);

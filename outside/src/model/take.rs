@@ -4,19 +4,25 @@
 use super::apply::{data_record, guide_row, DONE};
 use super::file::{examine, File, Kind};
 use super::form::{record_fault, row_fault};
-use super::layout::{MOST_RECORDS, RECORD, ROW};
+use super::layout::{MOST_RECORDS, ROW};
 use super::results::Taken;
 use super::rules::Rules;
+use super::versions::{widen, Version};
 
-fn data_file<R: Rules>() -> Kind {
+fn data_file<R: Rules>(version: Version) -> Kind {
     Kind {
-        size: RECORD,
-        fault: record_fault::<R>,
+        version,
+        size: version.record(),
+        fault: match version {
+            Version::One => |whole| record_fault::<R>(Version::One, whole),
+            Version::Two => |whole| record_fault::<R>(Version::Two, whole),
+        },
     }
 }
 
 fn guide_file<R: Rules>() -> Kind {
     Kind {
+        version: Version::Two,
         size: ROW,
         fault: row_fault::<R>,
     }
@@ -24,13 +30,14 @@ fn guide_file<R: Rules>() -> Kind {
 
 /// Checks a data file.
 pub fn check_data<R: Rules>(
+    version: Version,
     register: &[u8],
     guide: &[u8],
     file: &[u8],
     answers: &[u8],
     last: u32,
 ) -> Taken {
-    let kind = data_file::<R>();
+    let kind = data_file::<R>(version);
     check::<R>(&kind, register, guide, file, answers.len(), last)
 }
 
@@ -75,19 +82,21 @@ fn check<R: Rules>(
     }
 }
 
-/// Applies a data file.
+/// Applies a data file: "by widening each record to Version 2".
 pub fn apply_data<R: Rules>(
+    version: Version,
     register: &mut [u8],
     guide: &[u8],
     file: &[u8],
     answers: &mut [u8],
     last: u32,
 ) -> Taken {
-    let kind = data_file::<R>();
+    let kind = data_file::<R>(version);
     match examine::<R>(&kind, register, guide, file, answers.len(), last) {
         Err(refusal) => refusal,
-        Ok(file) => apply(&file, RECORD, answers, |whole| {
-            data_record::<R>(register, guide, file.date, whole)
+        Ok(file) => apply(&file, kind.size, answers, |whole| match version {
+            Version::One => data_record::<R>(register, guide, file.date, &widen::<R>(whole)),
+            Version::Two => data_record::<R>(register, guide, file.date, whole),
         }),
     }
 }
@@ -103,7 +112,7 @@ pub fn apply_guide<R: Rules>(
     let kind = guide_file::<R>();
     match examine::<R>(&kind, register, guide, file, answers.len(), last) {
         Err(refusal) => refusal,
-        Ok(file) => apply(&file, ROW, answers, |whole| {
+        Ok(file) => apply(&file, kind.size, answers, |whole| {
             guide_row::<R>(register, guide, whole)
         }),
     }

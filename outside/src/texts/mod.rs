@@ -11,7 +11,7 @@ use crate::call::{Call, Op, Outcome};
 use crate::explore::{Explorer, Finding, Runs};
 use crate::gen::{file, World};
 use crate::model::layout::{RECORD, REGISTER_SLOT};
-use crate::model::{write_tagged, Described};
+use crate::model::{write_tagged, Described, Version};
 use crate::random::Random;
 use crate::subject::Subject;
 use crate::town;
@@ -222,6 +222,7 @@ impl<A: Subject, B: Subject> Explorer<'_, A, B, TextCoverage> {
         let count = records.len() / RECORD;
         let call = Call {
             op: Op::ApplyData,
+            version: Version::Two,
             given: 0,
             lent: vec![
                 vec![0; REGISTER_SLOT],

@@ -1,7 +1,8 @@
--- An unsound register is 1. A sound one has at most 4096 slots (few-slots), which is what header_refusal asks, and its answer is the rest.
+-- An unsound register is 1, with slot 0. A sound one has at most 4096 slots (few-slots), which is what header_refusal asks, and its answer
+-- is the rest.
 use mathlib.Core.Path.{refl, sym, _∙_}
 use denote.Ref.{now}
-use Rattle.rules.specs.Loads.{loadRefusal}
+use Rattle.rules.specs.Loads.{loadRefusal, wideSlot}
 use Rattle.loading.proofs.WriteLaws.{few-slots}
 use borrow.Author.Needs.{needs}
 use Rattle.loading.proofs.refusal.Statement.{statement}
@@ -19,10 +20,23 @@ returns : tie.Need-returns
 unfolding loadRefusal
 returns c = rw (← c .before .before .is-register-sound .ensures, c .before .if1 .taken) (c .header-refusal .ensures)
 
+refused-requires : tie.Need-refused-requires
+refused-requires c κs = search needs
+
 returns-2 : tie.Need-returns-2
-unfolding loadRefusal
-returns-2 c = rw (← c .before .is-register-sound .ensures, c .if1 .left) refl
+unfolding loadRefusal wideSlot
+returns-2 c =
+    let is-register-sound = c .before .before .is-register-sound in (
+      rw (c .refused .ensures .0, ← is-register-sound .ensures, c .before .if1 .left) refl,
+      rw (c .refused .ensures .1, c .refused .ensures .0) refl,
+    )
 
 pub refusal-spec : {M : Type 1} → statement M
 refusal-spec =
-    tie.close (tie.spec is-register-sound-requires header-refusal-requires returns returns-2)
+    tie.close
+    (tie.spec
+    is-register-sound-requires
+    header-refusal-requires
+    returns
+    refused-requires
+    returns-2)

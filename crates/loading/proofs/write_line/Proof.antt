@@ -1,30 +1,52 @@
--- The record is as long as the line, so put writes all of it (put-all), and mark_for_load promises forLoad of what it finds there.
-use Rattle.loading.proofs.WriteLaws.{put-all}
-use mathlib.Core.Path.{ap, _∙_}
-use Prim.Native.Nat.{ℕ}
-use mathlib.Core.List.{List}
-use denote.Ref.{now}
-use Rattle.layout.specs.Fields.{forLoad}
+-- In each version the callee's promise is narrowOf's own case, and what it asks of the lengths is that case of the shape's.
+use mathlib.Core.Path.{sym, _∙_}
 use borrow.Author.Needs.{needs}
 use Rattle.loading.proofs.write_line.Statement.{statement}
 use Rattle.loading.proofs.write_line.Tie as tie
 
-put-requires : tie.Need-put-requires
-put-requires c κs = search needs
+enum-told : tie.Need-enum-told
+enum-told c = search needs
 
-mark-for-load-requires : tie.Need-mark-for-load-requires
-mark-for-load-requires c κs = search needs
+write-narrow-requires : tie.Need-write-narrow-requires
+write-narrow-requires c κs =
+    let pre = c .before .before .before .before .before .pre in
+    (pre .0, rw (c .before .enum-told .given .1) at (pre .1))
+
+enum-told-2 : tie.Need-enum-told-2
+enum-told-2 c = search needs
+
+write-wide-requires : tie.Need-write-wide-requires
+write-wide-requires c κs =
+    let pre = c .before .before .before .before .before .pre in
+    pre .0 ∙ sym (rw (c .before .enum-told2 .given .1) at (pre .1))
 
 same-length : tie.Need-same-length
 same-length c = search needs
 
 returns : tie.Need-returns
 returns c =
-    let mark-for-load = c .before .before .mark-for-load in
-    let at-put = c .before .before .before .before .before .before in
-    let at-start = at-put .before .before .before .before in
-    mark-for-load .ensures
-    ∙ ap (λ (s : List ℕ). forLoad s) (at-put .put .ensures ∙ put-all (at-start .args .rec .now) (at-start .args .line .now) (at-start .pre))
+    let write-narrow = c .before .before .write-narrow in
+    let the-enum-told = c .before .before .before .before .enum-told in
+    rw (the-enum-told .given .1) (write-narrow .ensures)
+
+same-length-2 : tie.Need-same-length-2
+same-length-2 c = search needs
+
+returns-2 : tie.Need-returns-2
+returns-2 c =
+    let write-wide = c .before .before .write-wide in
+    let enum-told2 = c .before .before .before .before .enum-told2 in
+    rw (enum-told2 .given .1) (write-wide .ensures)
 
 pub write-line-spec : {M : Type 1} → statement M
-write-line-spec = tie.close (tie.spec put-requires mark-for-load-requires same-length returns)
+write-line-spec =
+    tie.close
+    (tie.spec
+    enum-told
+    write-narrow-requires
+    enum-told-2
+    write-wide-requires
+    same-length
+    returns
+    same-length-2
+    returns-2)

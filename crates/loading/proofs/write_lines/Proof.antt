@@ -11,13 +11,13 @@ use Rattle.loading.proofs.write_lines.Statement.{statement}
 use Rattle.loading.proofs.write_lines.Tie as tie
 
 abbrev Inv-loop : tie.InvT-loop
-Inv-loop register out₀ n at₀ i₀ out at i = Laid register out₀ i at out
+Inv-loop version register out₀ n at₀ i₀ out at i = Laid version register out₀ i at out
 
 abbrev μ-loop : tie.MeasureT-loop
-μ-loop register out₀ n at₀ i₀ out at i = n - i
+μ-loop version register out₀ n at₀ i₀ out at i = n - i
 
 loop-holds : tie.Need-loop-holds Inv-loop μ-loop
-loop-holds c = laid-none _ _
+loop-holds c = laid-none _ _ _
 
 mul-a : tie.Need-mul-a Inv-loop μ-loop
 mul-a c = search needs
@@ -42,12 +42,13 @@ write-entry-requires c κs =
     let i = at-loop .loop .i in
     let at-start = at-loop .before .before .before in
     let pre = at-start .pre in
+    let version = at-start .args .version in
     let register = at-start .args .register .now in
     let out = at-start .args .out .now in
     rw (place-part 520 register i) (
       length-slot-at register i (loop-test .taken),
-      rw (laid-length register out (pre .1) i (at-loop .loop .at) (at-loop .loop .out) (at-loop .loop .inv))
-          (laid-room register out (pre .1) i (at-loop .loop .at) (at-loop .loop .out) (at-loop .loop .inv) (loop-test .taken)),
+      rw (laid-length version register out pre i (at-loop .loop .at) (at-loop .loop .out) (at-loop .loop .inv))
+          (laid-room version register out pre i (at-loop .loop .at) (at-loop .loop .out) (at-loop .loop .inv) (loop-test .taken)),
     )
 
 add-i : tie.Need-add-i Inv-loop μ-loop
@@ -65,23 +66,24 @@ loop-again c =
     let i = at-loop .loop .i in
     let at-start = at-loop .before .before .before in
     let register = at-start .args .register .now in
-    laid-more register (at-start .args .out .now) (at-start .pre .1) i (at-loop .loop .at) (at-loop .loop .out) (at-loop .loop .inv)
-    (at-loop-test .loop-test .taken) (write-entry .result) (rw (place-part 520 register i) at (write-entry .ensures .0))
-    (write-entry .last .1 .0) (rw (place-part 520 register i) at (write-entry .ensures .1))
+    laid-more (at-start .args .version) register (at-start .args .out .now) (at-start .pre) i (at-loop .loop .at) (at-loop .loop .out)
+    (at-loop .loop .inv) (at-loop-test .loop-test .taken) (write-entry .result)
+    (rw (place-part 520 register i) at (write-entry .ensures .0)) (write-entry .last .1 .1 .0)
+    (rw (place-part 520 register i) at (write-entry .ensures .1))
 
 same-length : tie.Need-same-length Inv-loop μ-loop
 same-length c =
     let at-loop = c .before in
     let at-start = at-loop .before .before .before in
-    laid-length (at-start .args .register .now) (at-start .args .out .now) (at-start .pre .1) (at-loop .loop .i) (at-loop .loop .at)
-    (at-loop .loop .out) (at-loop .loop .inv)
+    laid-length (at-start .args .version) (at-start .args .register .now) (at-start .args .out .now) (at-start .pre) (at-loop .loop .i)
+    (at-loop .loop .at) (at-loop .loop .out) (at-loop .loop .inv)
 
 returns : tie.Need-returns Inv-loop μ-loop
 returns c =
     let at-loop = c .before in
     let at-start = at-loop .before .before .before in
-    laid-all (at-start .args .register .now) (at-start .args .out .now) (at-start .pre .1) (at-loop .loop .i) (at-loop .loop .at)
-    (at-loop .loop .out) (at-loop .loop .inv) (c .loop-test .left)
+    laid-all (at-start .args .version) (at-start .args .register .now) (at-start .args .out .now) (at-start .pre) (at-loop .loop .i)
+    (at-loop .loop .at) (at-loop .loop .out) (at-loop .loop .inv) (c .loop-test .left)
 
 pub write-lines-spec : {M : Type 1} → statement M
 write-lines-spec =

@@ -6,6 +6,7 @@ use native.Mathlib.Omega.{arith}
 use lib.ListN.{take}
 use denote.Ref.{now}
 use borrow.Author.Needs.{needs}
+use Rattle.versions.specs.declared.Version.the-variants.{Two}
 use Rattle.rules.specs.declared.Kind.the-variants.{Data}
 use Rattle.desk_rules.proofs.DeskLaws.{data-laid}
 use Rattle.desk_rules.proofs.TakenLaws.{taken-fits}
@@ -34,12 +35,13 @@ taken-requires : tie.Need-taken-requires
 taken-requires c κs =
     let apply-data = c .before .before .before .before .before .apply-data in
     let at-start = c .before .before .before .before .before .before .before .before .before .before .before .before .before .args in
+    let pre = c .before .before .before .before .before .before .before .before .before .before .before .before .before .pre in
     let m = at-start .m in
     let e : m .collected - 0 ≡ m .collected = omega arith in
     let q = rw e at (apply-data .ensures) in
-    let h = taken-fits Data (record { register = at-start .register .now; guide = at-start .guide .now })
-    (take (m .collected) (at-start .collection .now)) (m .register) (q .0) (apply-data .kept .1 .1 .1 .0) in
-    (h .0, (h .1, search needs))
+    let h = taken-fits (Data Two) (record { register = at-start .register .now; guide = at-start .guide .now })
+    (take (m .collected) (at-start .collection .now)) (m .register) (q .0) (apply-data .kept .1 .1 .1 .1 .0) in
+    (h .0, (h .1, pre .1))
 
 emptied-requires : tie.Need-emptied-requires
 emptied-requires c κs = search needs

@@ -1,5 +1,5 @@
--- Seven arms in keepsOther's order, each opened by the number that the match names; letters and bounds are the table's, and compute
--- to the definition's. Behind seven false tests stands keeps_frame's answer.
+-- Eight arms in keepsOther's order, each opened by the number that the match names; letters and bounds are the table's, and compute
+-- to the definition's. Behind eight false tests stands keeps_frame's answer.
 use borrow.Author.Needs.{needs}
 use borrow.Author.Tests.{ne-eqb}
 use Rattle.layout.specs.Rules.{keepsOther}
@@ -36,6 +36,12 @@ slice-aggregate-all-of-3 c = search needs
 all-of-requires-3 : tie.Need-all-of-requires-3
 all-of-requires-3 c κs = search needs
 
+slice-aggregate-all-of-4 : tie.Need-slice-aggregate-all-of-4
+slice-aggregate-all-of-4 c = search needs
+
+all-of-requires-4 : tie.Need-all-of-requires-4
+all-of-requires-4 c κs = search needs
+
 keeps-frame-requires : tie.Need-keeps-frame-requires
 keeps-frame-requires c κs = search needs
 
@@ -69,9 +75,14 @@ returns-7 c = rw (c .before .before .match .keys7) (c .all-of3 .ensures)
 
 returns-8 : tie.Need-returns-8
 unfolding keepsOther
-returns-8 c =
+returns-8 c = rw (c .before .before .match .keys8) (c .all-of4 .ensures)
+
+returns-9 : tie.Need-returns-9
+unfolding keepsOther
+returns-9 c =
     let match = c .before .match in
     rw (
+      ne-eqb _ _ (match .rest .0 .0 .0 .0 .0 .0 .0 .1),
       ne-eqb _ _ (match .rest .0 .0 .0 .0 .0 .0 .1),
       ne-eqb _ _ (match .rest .0 .0 .0 .0 .0 .1),
       ne-eqb _ _ (match .rest .0 .0 .0 .0 .1),
@@ -95,6 +106,8 @@ keeps-other-spec =
     runs-requires-3
     slice-aggregate-all-of-3
     all-of-requires-3
+    slice-aggregate-all-of-4
+    all-of-requires-4
     keeps-frame-requires
     returns
     returns-2
@@ -103,4 +116,5 @@ keeps-other-spec =
     returns-5
     returns-6
     returns-7
-    returns-8)
+    returns-8
+    returns-9)

@@ -1,9 +1,12 @@
--- Each call writes over what the one before left, spaces first and the letters last. frameWith nests the same six writings, so
--- their promises go in from the innermost out.
+-- Each call writes over what the one before left, spaces first and the letters last; `*` goes to the last byte, which from_zero gives.
+-- frameWith nests the same six writings, so their promises go in from the innermost out.
 use Rattle.layout.specs.Frames.{frameWith}
 use borrow.Author.Needs.{needs}
 use Rattle.lines.proofs.frame.put_frame.Statement.{statement}
 use Rattle.lines.proofs.frame.put_frame.Tie as tie
+
+from-zero-requires : tie.Need-from-zero-requires
+from-zero-requires c κs = search needs
 
 fill-requires : tie.Need-fill-requires
 fill-requires c κs = search needs
@@ -37,14 +40,22 @@ returns c =
     let at-put3 = at-put4 .before .before .before .before in
     let at-put2 = at-put3 .before .before .before .before in
     let at-put = at-put2 .before .before .before .before in
-    let fill = at-put .before .before .before .before .before .fill in
-    rw (← fill .ensures, ← at-put .put .ensures, ← at-put2 .put2 .ensures, ← at-put3 .put3 .ensures, ← at-put4 .put4 .ensures)
-    (put5 .ensures)
+    let at-fill = at-put .before .before .before .before .before in
+    let star = at-fill .before .before .from-zero in
+    rw (
+      ← star .ensures,
+      ← at-fill .fill .ensures,
+      ← at-put .put .ensures,
+      ← at-put2 .put2 .ensures,
+      ← at-put3 .put3 .ensures,
+      ← at-put4 .put4 .ensures,
+    ) (put5 .ensures)
 
 pub put-frame-spec : {M : Type 1} → statement M
 put-frame-spec =
     tie.close
     (tie.spec
+    from-zero-requires
     fill-requires
     slice-aggregate-put
     put-requires

@@ -3,6 +3,7 @@
 use mathlib.Core.Path.{refl}
 use native.Mathlib.Omega.{arith}
 use borrow.Author.Needs.{needs}
+use Rattle.versions.specs.declared.Version.the-variants.{Two}
 use Rattle.rules.specs.declared.Kind.the-variants.{Data}
 use Rattle.rules.proofs.FaultLaws.{line-fault-le}
 use Rattle.tagged.proofs.ReadLaws.{blank-clear, frame-refused, frame-long, note-refused, field-refused, short-refused, text-read}
@@ -82,7 +83,7 @@ record-fault-requires c κs = search needs
 cast-refused : tie.Need-cast-refused
 cast-refused c =
     let take-pairs = c .before .before .before .before .before .before .before .take-pairs in
-    let h = line-fault-le Data (take-pairs .last .1 .1 .0) in
+    let h = line-fault-le (Data Two) (take-pairs .last .1 .1 .0) in
     search needs
 
 refused-requires-3 : tie.Need-refused-requires-3

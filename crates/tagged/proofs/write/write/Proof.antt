@@ -1,5 +1,6 @@
 -- The tests are those of writeTable, in its order, and each refusal is the first row that hits. Where none does, the text stands at the
 -- front of the local bytes, and its n bytes of them are laid over the output (text-written).
+use Rattle.versions.specs.declared.Version.the-variants.{Two}
 use Rattle.rules.specs.declared.Kind.the-variants.{Data}
 use Rattle.rules.proofs.FaultLaws.{line-fault-le}
 use Rattle.tagged.proofs.TextLaws.{length-refused, fault-refused, form-refused, room-refused, text-fits, text-written}
@@ -20,7 +21,7 @@ record-fault-requires c κs = search needs
 
 cast-refused : tie.Need-cast-refused
 cast-refused c =
-    let h = line-fault-le Data (c .before .before .before .before .before .args .rec .now) in
+    let h = line-fault-le (Data Two) (c .before .before .before .before .before .args .rec .now) in
     search needs
 
 refused-requires-2 : tie.Need-refused-requires-2

@@ -2,14 +2,8 @@
 -- and else check_trailer answers; the bound on the lines is handed on to it as it came.
 use borrow.Author.Needs.{needs}
 use Rattle.rules.specs.Takes.{frameChecked}
-use Rattle.taking.proofs.checks.check_frame.Tie as tie
 use Rattle.taking.proofs.checks.check_frame.Statement.{statement}
-
-slice-aggregate-fields : tie.Need-slice-aggregate-fields
-slice-aggregate-fields c = search needs
-
-header-line-requires : tie.Need-header-line-requires
-header-line-requires c κs = search needs
+use Rattle.taking.proofs.checks.check_frame.Tie as tie
 
 header-in-requires : tie.Need-header-in-requires
 header-in-requires c κs = search needs
@@ -25,17 +19,14 @@ refused-requires c κs = search needs
 
 returns : tie.Need-returns
 unfolding frameChecked
-returns c =
-    let header-in = c .before .before .before .header-in in
-    let header-line = c .before .before .before .before .header-line in
-    rw (← header-line .ensures, ← header-in .ensures, c .before .enum-told .given .1) (c .refused .ensures)
+returns c = rw (← c .before .before .before .header-in .ensures, c .before .enum-told .given .1) (c .refused .ensures)
 
 is-next-requires : tie.Need-is-next-requires
 is-next-requires c κs = search needs
 
 check-trailer-requires : tie.Need-check-trailer-requires
 check-trailer-requires c κs =
-    let pre = c .before .before .before .before .before .before .before .before .before .before .pre in
+    let pre = c .before .before .before .before .before .before .before .before .pre in
     pre
 
 returns-2 : tie.Need-returns-2
@@ -44,9 +35,7 @@ returns-2 c =
     let is-next = c .before .before .is-next in
     let at-h = c .before .before .before .before .before in
     let header-in = at-h .before .before .header-in in
-    let header-line = at-h .before .before .before .header-line in
-    rw (← header-line .ensures, ← header-in .ensures, at-h .h .given .1, ← is-next .ensures, c .before .if1 .taken)
-    (c .check-trailer .ensures)
+    rw (← header-in .ensures, at-h .h .given .1, ← is-next .ensures, c .before .if1 .taken) (c .check-trailer .ensures)
 
 refused-requires-2 : tie.Need-refused-requires-2
 refused-requires-2 c κs = search needs
@@ -57,15 +46,12 @@ returns-3 c =
     let is-next = c .before .before .is-next in
     let at-h = c .before .before .before .before .before in
     let header-in = at-h .before .before .header-in in
-    let header-line = at-h .before .before .before .header-line in
-    rw (← header-line .ensures, ← header-in .ensures, at-h .h .given .1, ← is-next .ensures, c .before .if1 .left) (c .refused2 .ensures)
+    rw (← header-in .ensures, at-h .h .given .1, ← is-next .ensures, c .before .if1 .left) (c .refused2 .ensures)
 
 pub check-frame-spec : {M : Type 1} → statement M
 check-frame-spec =
     tie.close
     (tie.spec
-    slice-aggregate-fields
-    header-line-requires
     header-in-requires
     enum-known-h
     enum-told

@@ -2,17 +2,8 @@
 -- answers. What that asks of n is lines_in's promise, and the given bound said of n.
 use borrow.Author.Needs.{needs}
 use Rattle.rules.specs.Takes.{trailerChecked}
-use Rattle.taking.proofs.checks.check_trailer.Tie as tie
 use Rattle.taking.proofs.checks.check_trailer.Statement.{statement}
-
-slice-aggregate-fields : tie.Need-slice-aggregate-fields
-slice-aggregate-fields c = search needs
-
-header-line-requires : tie.Need-header-line-requires
-header-line-requires c κs = search needs
-
-trailer-line-requires : tie.Need-trailer-line-requires
-trailer-line-requires c κs = search needs
+use Rattle.taking.proofs.checks.check_trailer.Tie as tie
 
 trailer-in-requires : tie.Need-trailer-in-requires
 trailer-in-requires c κs = search needs
@@ -28,12 +19,7 @@ refused-requires c κs = search needs
 
 returns : tie.Need-returns
 unfolding trailerChecked
-returns c =
-    let at-trailer-in = c .before .before .before in
-    let trailer-line = at-trailer-in .before .trailer-line in
-    let header-line = at-trailer-in .before .before .header-line in
-    rw (← header-line .ensures, ← trailer-line .ensures, ← at-trailer-in .trailer-in .ensures, c .before .enum-told .given .1)
-    (c .refused .ensures)
+returns c = rw (← c .before .before .before .trailer-in .ensures, c .before .enum-told .given .1) (c .refused .ensures)
 
 lines-in-requires : tie.Need-lines-in-requires
 lines-in-requires c κs = search needs
@@ -44,7 +30,7 @@ is-requires c κs = search needs
 check-lines-requires : tie.Need-check-lines-requires
 check-lines-requires c κs =
     let lines-in = c .before .before .lines-in in
-    let pre = c .before .before .before .before .before .before .before .before .before .before .before .pre in
+    let pre = c .before .before .before .before .before .before .before .before .pre in
     (lines-in .ensures, rw (← lines-in .ensures) at pre)
 
 returns-2 : tie.Need-returns-2
@@ -53,18 +39,8 @@ returns-2 c =
     let at-is = c .before .before in
     let lines-in = at-is .before .lines-in in
     let count = at-is .before .before .before .count in
-    let at-trailer-in = at-is .before .before .before .before .before in
-    let trailer-line = at-trailer-in .before .trailer-line in
-    let header-line = at-trailer-in .before .before .header-line in
-    rw (
-      ← header-line .ensures,
-      ← trailer-line .ensures,
-      ← at-trailer-in .trailer-in .ensures,
-      count .given .1,
-      ← lines-in .ensures,
-      ← at-is .is .ensures,
-      c .before .if1 .taken,
-    ) (c .check-lines .ensures)
+    let trailer-in = at-is .before .before .before .before .before .trailer-in in
+    rw (← trailer-in .ensures, count .given .1, ← lines-in .ensures, ← at-is .is .ensures, c .before .if1 .taken) (c .check-lines .ensures)
 
 refused-requires-2 : tie.Need-refused-requires-2
 refused-requires-2 c κs = search needs
@@ -75,26 +51,13 @@ returns-3 c =
     let at-is = c .before .before in
     let lines-in = at-is .before .lines-in in
     let count = at-is .before .before .before .count in
-    let at-trailer-in = at-is .before .before .before .before .before in
-    let trailer-line = at-trailer-in .before .trailer-line in
-    let header-line = at-trailer-in .before .before .header-line in
-    rw (
-      ← header-line .ensures,
-      ← trailer-line .ensures,
-      ← at-trailer-in .trailer-in .ensures,
-      count .given .1,
-      ← lines-in .ensures,
-      ← at-is .is .ensures,
-      c .before .if1 .left,
-    ) (c .refused2 .ensures)
+    let trailer-in = at-is .before .before .before .before .before .trailer-in in
+    rw (← trailer-in .ensures, count .given .1, ← lines-in .ensures, ← at-is .is .ensures, c .before .if1 .left) (c .refused2 .ensures)
 
 pub check-trailer-spec : {M : Type 1} → statement M
 check-trailer-spec =
     tie.close
     (tie.spec
-    slice-aggregate-fields
-    header-line-requires
-    trailer-line-requires
     trailer-in-requires
     enum-known-count
     enum-told

@@ -1,47 +1,45 @@
--- A file below 400 bytes fails the first test of goodFile (lt-leb). From there on it passes, and the two others are the code's own once
--- lines_in's promise gives the count and the arm the size of a line.
+-- A file shorter than header and trailer fails the first test of goodFile (lt-leb). From there on it passes, and the two others are the
+-- code's own, by the lengths of sizes_of and the count of lines_in.
 use borrow.Author.Needs.{needs}
 use borrow.Author.Tests.{le-leb, lt-leb}
 use Rattle.rules.specs.Takes.{goodFile}
-use Rattle.taking.proofs.checks.is_good_file.Tie as tie
 use Rattle.taking.proofs.checks.is_good_file.Statement.{statement}
+use Rattle.taking.proofs.checks.is_good_file.Tie as tie
+
+sizes-of-requires : tie.Need-sizes-of-requires
+sizes-of-requires c κs = search needs
+
+add-edges : tie.Need-add-edges
+add-edges c = search needs
 
 returns : tie.Need-returns
 unfolding goodFile
-returns c = rw (lt-leb _ _ (c .if1 .taken))
-
-lines-in-requires : tie.Need-lines-in-requires
-lines-in-requires c κs = search needs
-
-enum-told : tie.Need-enum-told
-enum-told c = search needs
+returns c = rw (← c .before .before .sizes-of .ensures .0 .0, lt-leb _ _ (c .if1 .taken))
 
 sub-result : tie.Need-sub-result
 sub-result c = search needs
 
-enum-told-2 : tie.Need-enum-told-2
-enum-told-2 c = search needs
+rem-result : tie.Need-rem-result
+rem-result c = search needs
 
-sub-result-2 : tie.Need-sub-result-2
-sub-result-2 c = search needs
+lines-in-requires : tie.Need-lines-in-requires
+lines-in-requires c κs = search needs
 
 returns-2 : tie.Need-returns-2
 unfolding goodFile
-returns-2 c = rw (le-leb _ _ (c .before .before .before .if1 .left), ← c .before .before .lines-in .ensures, c .enum-told .given .1)
-
-returns-3 : tie.Need-returns-3
-unfolding goodFile
-returns-3 c = rw (le-leb _ _ (c .before .before .before .if1 .left), ← c .before .before .lines-in .ensures, c .enum-told2 .given .1)
+returns-2 c =
+    let if1 = c .before .before .if1 in
+    let sizes-of = c .before .before .before .before .sizes-of in
+    rw (← sizes-of .ensures .0 .0, ← sizes-of .ensures .0 .1, le-leb _ _ (if1 .left), ← c .lines-in .ensures)
 
 pub is-good-file-spec : {M : Type 1} → statement M
 is-good-file-spec =
     tie.close
     (tie.spec
+    sizes-of-requires
+    add-edges
     returns
-    lines-in-requires
-    enum-told
     sub-result
-    enum-told-2
-    sub-result-2
-    returns-2
-    returns-3)
+    rem-result
+    lines-in-requires
+    returns-2)

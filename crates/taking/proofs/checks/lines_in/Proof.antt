@@ -1,49 +1,42 @@
--- Below 400 bytes the definition's length - 400 is 0, and no line fits in 0 bytes (zero-div). From there on the quotient is linesIn itself,
--- once the arm says which size the kind's lines have.
+-- In a file shorter than header and trailer the definition's difference is 0, and no line fits in 0 bytes (zero-div). From there on the
+-- quotient is linesIn itself, by the lengths of sizes_of.
 use mathlib.Core.Path.{_≡_, sym}
-use Prim.Native.Nat.{_-_}
+use Prim.Native.Nat.{_+_, _-_}
 use native.Mathlib.Nat.{zero-div}
 use native.Mathlib.Omega.{arith}
 use lib.ListN.{length}
 use denote.Ref.{now}
 use borrow.Author.Needs.{needs}
-use Rattle.rules.specs.Takes.{lineSize, linesIn}
-use Rattle.taking.proofs.checks.lines_in.Tie as tie
+use Rattle.rules.specs.Takes.{shapeOf, linesIn}
 use Rattle.taking.proofs.checks.lines_in.Statement.{statement}
+use Rattle.taking.proofs.checks.lines_in.Tie as tie
+
+sizes-of-requires : tie.Need-sizes-of-requires
+sizes-of-requires c κs = search needs
+
+add-edges : tie.Need-add-edges
+add-edges c = search needs
 
 returns : tie.Need-returns
 unfolding linesIn
-returns c = let z : length (c .before .args .file .now) - 400 ≡ 0 = omega arith in
-    rw z (sym (zero-div (lineSize (c .before .args .kind))))
-
-enum-told : tie.Need-enum-told
-enum-told c = search needs
+returns c =
+    let sizes-of = c .before .before .sizes-of in
+    let at-start = c .before .before .before .before .args in
+    let z : length (at-start .file .now) - (sizes-of .result .frame + sizes-of .result .frame) ≡ 0 = omega arith in
+    rw (← sizes-of .ensures .0 .0, z) (sym (zero-div (shapeOf (at-start .kind) .line)))
 
 sub-result : tie.Need-sub-result
 sub-result c = search needs
 
-enum-told-2 : tie.Need-enum-told-2
-enum-told-2 c = search needs
-
-sub-result-2 : tie.Need-sub-result-2
-sub-result-2 c = search needs
+div-result : tie.Need-div-result
+div-result c = search needs
 
 returns-2 : tie.Need-returns-2
 unfolding linesIn
-returns-2 c = rw (c .enum-told .given .1)
-
-returns-3 : tie.Need-returns-3
-unfolding linesIn
-returns-3 c = rw (c .enum-told2 .given .1)
+returns-2 c =
+    let sizes-of = c .before .before .before .sizes-of in
+    rw (← sizes-of .ensures .0 .0, ← sizes-of .ensures .0 .1)
 
 pub lines-in-spec : {M : Type 1} → statement M
 lines-in-spec =
-    tie.close
-    (tie.spec
-    returns
-    enum-told
-    sub-result
-    enum-told-2
-    sub-result-2
-    returns-2
-    returns-3)
+    tie.close (tie.spec sizes-of-requires add-edges returns sub-result div-result returns-2)

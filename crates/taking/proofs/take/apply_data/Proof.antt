@@ -41,15 +41,16 @@ apply-records-requires c κs =
     let given = at-check-file .before .given in
     let at-start = at-check-file .before .before .before .before .before .before .before .args in
     let last = at-start .last in
+    let kind = Data (at-start .version) in
     let file = at-start .file .now in
     let register = at-start .register .now in
     let guide = at-start .guide .now in
     let answers = at-start .answers .now in
     let e = (sym (rw (given .ensures) at (at-check-file .check-file .ensures)) ∙ checked2 .given .1) in
     rw (at-lines-in .lines-in .ensures) (
-      good-lines Data file
-          (good-file Data (record { register = register; guide = guide }) file (length answers) (givenCycle last) _ e .long),
-      good-room Data (record { register = register; guide = guide }) file (length answers) (givenCycle last) _ e,
+      good-lines kind file
+          (good-file kind (record { register = register; guide = guide }) file (length answers) (givenCycle last) _ e .long),
+      good-room kind (record { register = register; guide = guide }) file (length answers) (givenCycle last) _ e,
     )
 
 applied-requires : tie.Need-applied-requires
@@ -61,10 +62,11 @@ applied-requires c κs =
     let given = at-check-file .before .given in
     let at-start = at-check-file .before .before .before .before .before .before .before .args in
     let file = at-start .file .now in
+    let kind = Data (at-start .version) in
     let e = (sym (rw (given .ensures) at (at-check-file .check-file .ensures)) ∙ checked2 .given .1) in (
       rw (at-lines-in .lines-in .ensures)
-          (good-lines Data file
-          (good-file Data (record { register = at-start .register .now; guide = at-start .guide .now }) file
+          (good-lines kind file
+          (good-file kind (record { register = at-start .register .now; guide = at-start .guide .now }) file
           (length (at-start .answers .now)) (givenCycle (at-start .last)) _ e .long)),
       at-apply-records .apply-records .ensures .0,
     )
@@ -79,7 +81,8 @@ returns c =
     let at-check-file = c .before .before .before .before in
     let given = at-check-file .before .given in
     let at-start = at-check-file .before .before .before .before .before .before .before .args in
-    let q = refused-is Data (record { register = at-start .register .now; guide = at-start .guide .now }) (at-start .file .now)
+    let kind = Data (at-start .version) in
+    let q = refused-is kind (record { register = at-start .register .now; guide = at-start .guide .now }) (at-start .file .now)
     (at-start .answers .now) (at-start .last) _ (sym (rw (given .ensures) at (at-check-file .check-file .ensures)) ∙ checked .given .1) in (
       c .refused .ensures ∙ sym (ap (λ (x : Outcome). x .result) q),
       (sym (ap (λ (x : Outcome). x .stores .register) q), sym (ap (λ (x : Outcome). x .answers) q)),
@@ -106,10 +109,11 @@ returns-2 c =
     let guide = at-start .guide .now in
     let file = at-start .file .now in
     let answers = at-start .answers .now in
-    let q = good-is Data (record { register = register; guide = guide }) file answers (at-start .last) _
+    let kind = Data (at-start .version) in
+    let q = good-is kind (record { register = register; guide = guide }) file answers (at-start .last) _
     (sym (rw (given .ensures) at (at-check-file .check-file .ensures)) ∙ checked2 .given .1) in (
       c .applied .ensures
-          ∙ applied-is Data _ (record { register = register; guide = guide }) file answers (lines-in .result) (apply-records .result)
+          ∙ applied-is kind _ (record { register = register; guide = guide }) file answers (lines-in .result) (apply-records .result)
           (lines-in .ensures) (apply-records .ensures .1 .0)
           ∙ sym (ap (λ (x : Outcome). x .result) q),
       (

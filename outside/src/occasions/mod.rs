@@ -1,13 +1,17 @@
 //! What must come up beside the numbers: conversions of each kind, decisions
-//! between a date of the last century and one of this, and how far a check goes.
+//! between a date of the last century and one of this, how far a check goes, and
+//! what files of one version do beside those of the other.
+
+mod versions;
 
 use crate::call::{Call, Op, Outcome};
 use crate::model::convert::{LAST_FORMER_DAY, MOVED};
 use crate::model::date::{day, Day};
-use crate::model::layout::{header, record, EDGE, MOST_RECORDS, RECORD};
+use crate::model::layout::{header, record, MOST_RECORDS, RECORD};
 use crate::model::store::{
     is_live, register_fits, register_sound, slot_day, slot_number, slots, FREE, HELD, OPEN, RESTING,
 };
+use crate::model::versions::as_stored;
 use crate::model::{Described, Former};
 use crate::subject::Model;
 
@@ -15,7 +19,7 @@ use crate::subject::Model;
 type CameUp = fn(&Call, &Outcome) -> bool;
 
 /// All of them, with their names.
-pub const OCCASIONS: [(&str, CameUp); 18] = [
+pub const OCCASIONS: [(&str, CameUp); 42] = [
     ("a held slot converted", is_converted::<HELD>),
     ("an open slot converted", is_converted::<OPEN>),
     ("a resting slot converted", is_converted::<RESTING>),
@@ -34,6 +38,60 @@ pub const OCCASIONS: [(&str, CameUp); 18] = [
     ("26 across the century", load_too_old),
     ("a check refused by 4 alone", short_of_answers),
     ("a good check, every record turned away", turned_away),
+    ("a Version 1 record done", versions::done),
+    (
+        "a Version 1 record done beside a wide entry",
+        versions::beside,
+    ),
+    ("a Version 1 C on a wide entry", versions::over_wide::<b'C'>),
+    ("a Version 1 D on a wide entry", versions::over_wide::<b'D'>),
+    (
+        "a Version 2 C that makes an entry wide",
+        versions::made_wide,
+    ),
+    (
+        "a Version 1 record of the longest street done",
+        versions::longest,
+    ),
+    ("a Version 1 U, 9 at 1", versions::unknown::<b'U'>),
+    ("a Version 1 M, 9 at 1", versions::unknown::<b'M'>),
+    (
+        "a good Version 1 file lent as Version 2, 3",
+        versions::lent_as_two::<3>,
+    ),
+    (
+        "a good Version 1 file lent as Version 2, 5",
+        versions::lent_as_two::<5>,
+    ),
+    (
+        "a good Version 2 file lent as Version 1, 3",
+        versions::lent_as_one::<3>,
+    ),
+    (
+        "a good Version 2 file lent as Version 1, 5",
+        versions::lent_as_one::<5>,
+    ),
+    ("27 for Street Name alone", versions::wide_by::<0>),
+    ("27 for Location alone", versions::wide_by::<1>),
+    ("27 for Customer Code to TAR alone", versions::wide_by::<2>),
+    ("27 for Reserved alone", versions::wide_by::<3>),
+    ("27 of a slot above 0", versions::above_0),
+    ("27 of an open slot", versions::wide_open),
+    ("27 behind a resting wide slot", versions::behind_resting),
+    (
+        "27 where the room is too short too",
+        versions::wide_and_short,
+    ),
+    ("26 where an entry is wide too", versions::wide_and_early),
+    ("a Version 1 load file with entries", versions::with_entries),
+    (
+        "a Version 1 load file past a resting wide slot",
+        versions::past_resting,
+    ),
+    (
+        "a Version 1 load file with what an M stored",
+        versions::with_migrated,
+    ),
 ];
 
 /// The register that is lent; every call has it first.
@@ -109,22 +167,23 @@ fn is_this_century(date: &[u8]) -> bool {
     day::<Described>(date).is_some_and(|Day(number)| number >= MOVED)
 }
 
-/// The records of a data file that were answered so.
+/// The records of a data file that were answered so, as they would be stored.
 fn answered<'a>(
     call: &'a Call,
     outcome: &'a Outcome,
     answer: u8,
-) -> impl Iterator<Item = &'a [u8]> {
+) -> impl Iterator<Item = [u8; RECORD]> + 'a {
     let taken = call.op == Op::ApplyData && outcome.refusal() == 0;
     let parts = taken.then(|| {
         let applied = outcome.returned[3] as usize;
-        (&call.lent[2][EDGE..], &outcome.lent[3][..applied])
+        let records = call.lent[2][call.version.edge()..].chunks_exact(call.version.record());
+        records.zip(&outcome.lent[3][..applied])
     });
     parts
         .into_iter()
-        .flat_map(|(records, answers)| records.chunks_exact(RECORD).zip(answers))
-        .filter(move |(_, &given)| given == answer)
-        .map(|(whole, _)| whole)
+        .flatten()
+        .filter(move |(_, given)| **given == answer)
+        .map(|(whole, _)| as_stored(call.version, whole))
 }
 
 fn file_date(call: &Call) -> &[u8] {
@@ -134,14 +193,14 @@ fn file_date(call: &Call) -> &[u8] {
 /// A record of this century in a file of the last.
 fn too_new(call: &Call, outcome: &Outcome) -> bool {
     answered(call, outcome, 11)
-        .any(|whole| is_last_century(file_date(call)) && is_this_century(record::DATE.of(whole)))
+        .any(|whole| is_last_century(file_date(call)) && is_this_century(record::DATE.of(&whole)))
 }
 
 /// A record of the last century for a number that has a day of this.
 fn too_old(call: &Call, outcome: &Outcome) -> bool {
     answered(call, outcome, 17).any(|whole| {
         let number = &whole[record::NPA.first - 1..record::CALLING_NUMBER.last];
-        is_last_century(record::DATE.of(whole))
+        is_last_century(record::DATE.of(&whole))
             && used(register(call))
                 .any(|slot| slot_number(slot) == number && slot_day(slot).0 >= MOVED)
     })
