@@ -248,6 +248,3 @@ pub const FRAME_SIZE: usize = FRAME_STAR_AT + 1;
 
 // The free part of header and trailer is shorter in Version 1.
 pub const NARROW_FRAME_SIZE: usize = 160;
-
-// Header and trailer together.
-pub const FRAMES_SIZE: usize = 2 * FRAME_SIZE;
