@@ -33,14 +33,15 @@ slice-aggregate-taken c = search needs
 
 taken-requires : tie.Need-taken-requires
 taken-requires c κs =
-    let apply-data = c .before .before .before .before .before .apply-data in
-    let at-start = c .before .before .before .before .before .before .before .before .before .before .before .before .before .args in
-    let pre = c .before .before .before .before .before .before .before .before .before .before .before .before .before .pre in
-    let m = at-start .m in
+    let at-apply-data = c .before .before .before .before .before in
+    let apply-data = at-apply-data .apply-data in
+    let the-at-start = at-apply-data .before .before .before .before .before .before .before .before in
+    let pre = the-at-start .pre in
+    let m = the-at-start .args .m in
     let e : m .collected - 0 ≡ m .collected = omega arith in
     let q = rw e at (apply-data .ensures) in
-    let h = taken-fits (Data Two) (record { register = at-start .register .now; guide = at-start .guide .now })
-    (take (m .collected) (at-start .collection .now)) (m .register) (q .0) (apply-data .kept .1 .1 .1 .1 .0) in
+    let h = taken-fits (Data Two) (record { register = the-at-start .args .register .now; guide = the-at-start .args .guide .now })
+    (take (m .collected) (the-at-start .args .collection .now)) (m .register) (q .0) (apply-data .kept .1 .1 .1 .1 .0) in
     (h .0, (h .1, pre .1))
 
 emptied-requires : tie.Need-emptied-requires
