@@ -1,9 +1,9 @@
 /*
  * circle: an example of the whole circle, from a guide file and data files through a load file back to a register,
- * each file checked and then applied; of a county that renumbers emergency zones under the entries; of the same circle
- * in Version 1, and of an entry that Version 1 cannot say; of a file that is checked in the evening and refused in the
- * morning; of a tagged record (Version 3.1) that is read, framed and taken, and written back as the same text; and of
- * converting a register that was written before, when days counted from 010100.
+ * each file checked and then applied; of the same circle in Version 1, and of an entry that Version 1 cannot say; of a
+ * file that is checked in the evening and refused in the morning; of a tagged record (Version 3.1) that is read, framed
+ * and taken, and written back as the same text; and of converting a register that was written before, when days counted
+ * from 010100.
  *
  *   circle            runs the circle and tells each step
  *   circle REGISTER   also writes the register to the file REGISTER, for `console` to look at
@@ -89,61 +89,20 @@ static const struct entry HOTEL[] = {
     {"D", "5035550107", "HOTEL", "101726", "", "", "", "", HAKKIYOLU_ANSWER_DONE},
 };
 
-static const struct heading ZONE_HEADING = {"101726", "MILL COUNTY", "2"};
-
-/*
- * The county gives two of its rows a new ESN. The first of them could not be deleted and filed anew, as entries lie
- * under it; its Low is compared as a number. No row has the range of the last.
- */
-static const struct row ZONES[] = {
-    {"D", "1", "99", "B", &MAIN, "83", HAKKIYOLU_ANSWER_ROW_IN_USE},
-    {"C", "01", "99", "B", &MAIN, "88", HAKKIYOLU_ANSWER_DONE},
-    {"C", "101", "199", "O", &MILL, "88", HAKKIYOLU_ANSWER_DONE},
-    {"C", "101", "197", "O", &MILL, "88", HAKKIYOLU_ANSWER_ROW_ABSENT},
-};
-static const char ZONE_ESN[] = "88";
-
-/* The guide slots of the two rows, and the register slots under them: of two held entries, an open one, two resting. */
-static const size_t ZONE_ROWS[] = {0, 2}, ZONE_SLOTS[] = {0, 2, 3, 4, 5};
-enum { ZONE_ENTRIES = 3 }; /* held or open */
-
-/* The file as it came first: its second row has no ESN. */
-static const struct row UNZONED[] = {
-    {"C", "1", "99", "B", &MAIN, "88", HAKKIYOLU_ANSWER_DONE},
-    {"C", "101", "199", "O", &MILL, "", HAKKIYOLU_ANSWER_DONE},
-};
-
-static const struct heading AGAIN_HEADING = {"101826", "MILL COUNTY", "3"};
-
-/* The rows once more, with the ESN that they have by now. */
-static const struct row AGAIN[] = {
-    {"C", "1", "99", "B", &MAIN, "88", HAKKIYOLU_ANSWER_DONE},
-    {"C", "101", "199", "O", &MILL, "88", HAKKIYOLU_ANSWER_DONE},
-};
-
-static const struct heading ZONED_HEADING = {"101826", "NEWCO TELEPHONE", "5"};
-
-/* A record with the old ESN is turned away then; the company files the new one, or leaves it blank. */
-static const struct entry ZONED[] = {
-    {"C", "5035550100", "NEWCO", "101726", "109", "MILL", "RD", "85", HAKKIYOLU_ANSWER_OTHER_ESN},
-    {"C", "5035550100", "NEWCO", "101726", "109", "MILL", "RD", "88", HAKKIYOLU_ANSWER_DONE},
-    {"C", "5035550100", "NEWCO", "101826", "111", "MILL", "RD", "", HAKKIYOLU_ANSWER_DONE},
-};
-
-static const struct heading EVENING_HEADING = {"101826", "NEWCO TELEPHONE", "6"};
+static const struct heading EVENING_HEADING = {"101826", "NEWCO TELEPHONE", "5"};
 
 /*
  * The second company would take over the other unlocked number. Its file is checked in the evening, but before the
  * morning the first company's comes, of the same cycle.
  */
 static const struct entry EVENING[] = {
-    {"M", "5035550103", "NEWCO", "101726", "40", "MAIN", "ST", "88", HAKKIYOLU_ANSWER_DONE},
+    {"M", "5035550103", "NEWCO", "101726", "40", "MAIN", "ST", "83", HAKKIYOLU_ANSWER_DONE},
 };
 
 /* No answer has this number, so an answer byte that holds it was not written to. */
 enum { UNANSWERED = 0x77 };
 
-static const struct heading TAGGED_HEADING = {"101826", "OLDCO TELEPHONE", "6"};
+static const struct heading TAGGED_HEADING = {"101826", "OLDCO TELEPHONE", "5"};
 
 /*
  * One more number of the first company, which comes tagged. Its labels stand in the order in which they are written,
@@ -151,7 +110,7 @@ static const struct heading TAGGED_HEADING = {"101826", "OLDCO TELEPHONE", "6"};
  * comments have no place in Version 1.
  */
 static const char TEXT[] =
-    "DAT|FOCI|CPN5035550105|HNO44|STNMAIN|STSST|MCNMILLBROOK|STAOR|CLS1|TYS0|ESN88|CPD2026-10-16|CPFOLDCO"
+    "DAT|FOCI|CPN5035550105|HNO44|STNMAIN|STSST|MCNMILLBROOK|STAOR|CLS1|TYS0|ESN83|CPD2026-10-16|CPFOLDCO"
     "|CMTDOOR IS IN MILL RD\n";
 static const char TEXT_NUMBER[] = "5035550105";
 
@@ -217,7 +176,6 @@ static bool take_entries(struct office *office, const struct heading *heading, c
     struct hakkiyolu_taken taken;
     bool good = take_file(office, &file, &taken);
     good = tell_entries(&file, entries, taken.records) && good;
-    good = tell_covered(taken.covered, 0) && good;
     free_file(&file);
     return good;
 }
@@ -241,15 +199,8 @@ static const uint8_t *held_record(const struct lent *reg, const char *number)
     return reg->bytes + record_at(hakkiyolu_seen_slot(seen));
 }
 
-/* Whether the part holds this text, and only spaces behind it. */
-static bool says(const uint8_t *line, struct part part, const char *text)
-{
-    const size_t length = strlen(text);
-    return (size_t)text_length(line, part) == length && memcmp(line + part.first - 1, text, length) == 0;
-}
-
-/* Shows where the dispatcher would send the crew; false if the number is not held by the company in this zone. */
-static bool show_street(const struct lent *reg, const char *number, const char *company, const char *esn)
+/* Shows where the dispatcher would send the crew; false if the number is not held by the company. */
+static bool show_street(const struct lent *reg, const char *number, const char *company)
 {
     const uint8_t *line = held_record(reg, number);
     if (line == NULL) {
@@ -264,12 +215,7 @@ static bool show_street(const struct lent *reg, const char *number, const char *
     printf(", of");
     print_part(line, RECORD.company);
     printf("\n");
-    return says(line, RECORD.company, company) && says(line, RECORD.esn, esn);
-}
-
-static bool same(const struct lent *a, const struct lent *b)
-{
-    return a->length == b->length && memcmp(a->bytes, b->bytes, a->length) == 0;
+    return memcmp(line + RECORD.company.first - 1, company, strlen(company)) == 0;
 }
 
 /* ---- A tagged record ------------------------------------------------------------------------------------------- */
@@ -367,7 +313,8 @@ static bool apply_in_morning(struct office *office, const struct file *file)
     struct lent reg = lend_copy(office->reg.bytes, office->reg.length);
     struct lent answers = lend_copy(file->answers.bytes, file->answers.length);
     const struct hakkiyolu_taken applied = apply_file(office, file);
-    const bool kept = same(&office->reg, &reg) && same(&file->answers, &answers);
+    const bool kept = memcmp(office->reg.bytes, reg.bytes, reg.length) == 0
+        && memcmp(file->answers.bytes, answers.bytes, answers.length) == 0;
     const bool good = applied.refusal == HAKKIYOLU_REFUSED_CYCLE && kept;
     printf("its cycle went to the other file since the check; register and answers are %s",
         kept ? "unchanged" : "changed");
@@ -555,110 +502,6 @@ static bool load_refused(const struct office *office)
     return good;
 }
 
-/* ---- A zone is renumbered -------------------------------------------------------------------------------------- */
-
-/* A C row needs its ESN. Without one its file is refused, checked or not, and the good row before it does nothing. */
-static bool zone_refused(struct office *office)
-{
-    const struct file file = frame_rows(&ZONE_HEADING, UNZONED, COUNT(UNZONED));
-    struct lent reg = lend_copy(office->reg.bytes, office->reg.length);
-    struct lent guide = lend_copy(office->guide.bytes, office->guide.length);
-    const struct hakkiyolu_taken applied = apply_file(office, &file);
-    const bool kept = same(&office->reg, &reg) && same(&office->guide, &guide);
-    const bool good = applied.refusal == HAKKIYOLU_REFUSED_RECORD && applied.place == COUNT(UNZONED)
-        && applied.position == ROW_ESN.first && applied.covered == 0 && kept;
-    printf("its last row has no ESN; register and guide are %s", kept ? "unchanged" : "changed");
-    printf(good ? "\n" : " -- NOT AS EXPECTED\n");
-    free(guide.bytes);
-    free(reg.bytes);
-    free_file(&file);
-    return good;
-}
-
-/* The store as it must be then: these slots have the new ESN, and every other byte is as it was. */
-static struct lent with_zone(const struct lent *store, size_t slot_bytes, struct part esn, const size_t *slots,
-    size_t count)
-{
-    struct lent due = lend_copy(store->bytes, store->length);
-    for (size_t i = 0; i < count; i++) {
-        put(due.bytes + slot_bytes * slots[i] + HAKKIYOLU_SLOT_LINE_AT, esn, ZONE_ESN);
-    }
-    return due;
-}
-
-/* Two rows get a new ESN, and so does every used slot under them; nothing else in the two stores changes. */
-static bool zone_renumbered(struct office *office)
-{
-    struct lent reg = with_zone(&office->reg, HAKKIYOLU_REGISTER_SLOT_BYTES, RECORD.esn, ZONE_SLOTS,
-        COUNT(ZONE_SLOTS));
-    struct lent guide = with_zone(&office->guide, HAKKIYOLU_GUIDE_SLOT_BYTES, ROW_ESN, ZONE_ROWS, COUNT(ZONE_ROWS));
-    const bool good = take_rows(office, &ZONE_HEADING, ZONES, COUNT(ZONES), COUNT(ZONE_SLOTS));
-    const bool due = same(&office->reg, &reg) && same(&office->guide, &guide);
-    printf("  two rows and these slots have ESN %s, %s\n", ZONE_ESN,
-        due ? "and no other byte of register and guide changed" : "OR SOMETHING ELSE CHANGED");
-    free(guide.bytes);
-    free(reg.bytes);
-    return good && due;
-}
-
-/*
- * Tells how many entries show another ESN than their row; false if another number is due. It is asked by a load file
- * that is applied to an empty register under this guide: the record of such an entry is answered 19.
- */
-static bool tell_apart(const struct office *office, size_t due)
-{
-    struct file load = lend_file(&LOAD_FILE, &LOAD_HEADING, SLOTS);
-    struct office empty = {lend(office->reg.length), office->guide, NONE_YET, NONE_YET};
-    load.whole.length = write_load(office, &load).bytes;
-    const struct hakkiyolu_taken applied = apply_file(&empty, &load);
-    size_t apart = 0;
-    for (size_t i = 0; i < applied.records; i++) {
-        apart += load.answers.bytes[i] == HAKKIYOLU_ANSWER_OTHER_ESN;
-    }
-    const bool good = apart == due && applied.undone == due;
-    printf("  entries that show another ESN than their row: %zu%s\n", apart, good ? "" : " -- NOT AS EXPECTED");
-    free(empty.reg.bytes);
-    free_file(&load);
-    return good;
-}
-
-/*
- * The register of before comes from a copy, without the guide of that moment, so its entries show ESNs that no row has
- * any more. C rows with the ESNs of today bring them along. No data file came since then, so nothing else is missing.
- */
-static bool zone_restored(const struct office *office, const struct lent *before)
-{
-    struct office restored = {lend_copy(before->bytes, before->length),
-        lend_copy(office->guide.bytes, office->guide.length), office->last_data, office->last_guide};
-    printf("a register of before is restored under the guide of today:\n");
-    bool good = show_street(&restored.reg, "5035550106", "HOTEL", "83");
-    good = tell_apart(&restored, ZONE_ENTRIES) && good;
-    printf("the C rows come again, with the ESNs of today:\n");
-    good = take_rows(&restored, &AGAIN_HEADING, AGAIN, COUNT(AGAIN), COUNT(ZONE_SLOTS)) && good;
-    const bool due = same(&restored.reg, &office->reg) && same(&restored.guide, &office->guide);
-    printf("  register and guide are %s\n", due ? "those of today" : "NOT THOSE OF TODAY");
-    free(restored.guide.bytes);
-    free(restored.reg.bytes);
-    return good && due;
-}
-
-/* The county renumbers zones, and no caller is without a location; lookups and records go by the new ESN at once. */
-static bool renumber(struct office *office)
-{
-    struct lent before = lend_copy(office->reg.bytes, office->reg.length);
-    printf("the county renumbers the zone of two rows:\n");
-    bool good = zone_refused(office);
-    good = zone_renumbered(office) && good;
-    good = show_street(&office->reg, "5035550106", "HOTEL", ZONE_ESN) && good;
-    good = show_street(&office->reg, "5035550100", "NEWCO", ZONE_ESN) && good;
-    good = zone_restored(office, &before) && good;
-    printf("records come with the old ESN, with the new one and with none:\n");
-    good = take_entries(office, &ZONED_HEADING, ZONED, COUNT(ZONED)) && good;
-    good = show_street(&office->reg, "5035550100", "NEWCO", ZONE_ESN) && good;
-    free(before.bytes);
-    return good;
-}
-
 /* ---- An old register ------------------------------------------------------------------------------------------- */
 
 static void put_slot_day(uint8_t *slot, uint32_t day)
@@ -720,15 +563,14 @@ static bool convert_late(const struct lent *reg)
 /* Every step is run and told, also after one that came out otherwise: what follows helps to see why. */
 static bool run_circle(struct office *office)
 {
-    bool good = take_rows(office, &GUIDE_HEADING, ROWS, COUNT(ROWS), 0);
+    bool good = take_rows(office, &GUIDE_HEADING, ROWS, COUNT(ROWS));
     good = take_entries(office, &FIRST_HEADING, FIRST, COUNT(FIRST)) && good;
     good = take_entries(office, &SECOND_HEADING, SECOND, COUNT(SECOND)) && good;
-    good = show_street(&office->reg, "5035550100", "NEWCO", "85") && good;
+    good = show_street(&office->reg, "5035550100", "NEWCO") && good;
     good = take_entries(office, &LATE_HEADING, LATE, COUNT(LATE)) && good;
-    good = show_street(&office->reg, "5035550100", "NEWCO", "85") && good;
+    good = show_street(&office->reg, "5035550100", "NEWCO") && good;
     good = quiet_night(office) && good;
-    good = show_street(&office->reg, "5035550106", "HOTEL", "83") && good;
-    good = renumber(office) && good;
+    good = show_street(&office->reg, "5035550106", "HOTEL") && good;
     good = load_and_back(office, &V1_LOAD_FILE) && good;
     good = evening_and_morning(office) && good;
     good = load_refused(office) && good;

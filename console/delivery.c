@@ -337,7 +337,7 @@ static enum status take_delivery(struct office *office, const char *path)
         perror(path);
         return NO_ROOM;
     }
-    const bool good = take_rows(office, &GUIDE_HEADING, ROWS, COUNT(ROWS), 0);
+    const bool good = take_rows(office, &GUIDE_HEADING, ROWS, COUNT(ROWS));
     const enum status status = take_lines(office, file, path);
     fclose(file); /* nothing was written to it */
     return status == GOOD && !good ? NOT_GOOD : status;

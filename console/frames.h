@@ -249,15 +249,6 @@ static bool tell_due(unsigned answer, unsigned due)
     return answer == due;
 }
 
-/* Tells how many slots a file covered, if it covered any or was to; false if another number was due. */
-static bool tell_covered(uint32_t covered, uint32_t due)
-{
-    if (covered != 0 || due != 0) {
-        printf("  slots under its C rows: %u%s\n", (unsigned)covered, covered == due ? "" : " -- NOT AS EXPECTED");
-    }
-    return covered == due;
-}
-
 /* Begins the line of a file that was checked or applied. If it was refused, ends it with that; false then. */
 static bool tell_file(const struct file *file, const struct hakkiyolu_taken *taken)
 {
@@ -301,7 +292,6 @@ static struct hakkiyolu_taken check_guide(const struct office *office, const str
         file->whole.bytes, file->whole.length, file->answers.bytes, file->answers.length, office->last_guide);
 }
 
-/* Writes to both stores: an office keeps the two together. */
 static struct hakkiyolu_taken apply_guide(struct office *office, const struct file *file)
 {
     const struct hakkiyolu_taken applied = hakkiyolu_apply_guide(office->reg.bytes, office->reg.length,
@@ -339,15 +329,14 @@ static struct hakkiyolu_taken apply_file(struct office *office, const struct fil
 }
 
 /*
- * Takes the file: checks it and, if it is good, applies it at once. False if it was refused, if the check says that it
- * covered a slot, or if the two calls do not tell the same number of records. What the later of them returned is left
- * in `taken`.
+ * Takes the file: checks it and, if it is good, applies it at once. False if it was refused, or if the two calls do not
+ * tell the same number of records. What the later of them returned is left in `taken`.
  */
 static bool take_file(struct office *office, const struct file *file, struct hakkiyolu_taken *taken)
 {
     const struct hakkiyolu_taken checked = check_file(office, file);
     *taken = checked;
-    if (!tell_covered(checked.covered, 0) || checked.refusal != HAKKIYOLU_NOT_REFUSED) {
+    if (checked.refusal != HAKKIYOLU_NOT_REFUSED) {
         return false;
     }
     *taken = apply_file(office, file);
@@ -370,41 +359,26 @@ static void print_row(const struct row *row)
     printf(", %s, ESN %s", row->parity, row->esn);
 }
 
-/* The rows as one guide file. */
-static struct file frame_rows(const struct heading *heading, const struct row *rows, size_t count)
+/* Takes the rows as one guide file; false if it was refused, or a row was not answered as is due. */
+static bool take_rows(struct office *office, const struct heading *heading, const struct row *rows, size_t count)
 {
     const struct file file = frame(&GUIDE_FILE, heading, count);
+    struct hakkiyolu_taken taken;
     for (size_t i = 0; i < count; i++) {
         write_row(line_at(&file, i), &rows[i]);
     }
-    return file;
-}
-
-/*
- * Takes the rows as one guide file; false if it was refused, if a row was not answered as is due, or if not so many
- * slots lie under the rows that its C rows renumbered.
- */
-static bool take_rows(struct office *office, const struct heading *heading, const struct row *rows, size_t count,
-    uint32_t covered)
-{
-    const struct file file = frame_rows(heading, rows, count);
-    struct hakkiyolu_taken taken;
     bool good = take_file(office, &file, &taken);
     for (size_t i = 0; i < taken.records; i++) {
         print_row(&rows[i]);
         good = tell_due(file.answers.bytes[i], rows[i].answer) && good;
     }
-    good = tell_covered(taken.covered, covered) && good;
     free_file(&file);
     return good;
 }
 
 /* ---- Ending ---------------------------------------------------------------------------------------------------- */
 
-/*
- * Writes the register to a file; false, with the reason on the standard error, if that fails. That is enough to look
- * numbers up. Who goes on from there later keeps the guide of the same moment too, and both last cycles.
- */
+/* Writes the register to a file; false, with the reason on the standard error, if that fails. */
 static bool write_register(const struct lent *reg, const char *path)
 {
     FILE *file = fopen(path, "wb");

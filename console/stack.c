@@ -21,7 +21,7 @@
 
 #include "hakkiyolu.h"
 
-enum { BOUND = 4096, SLOTS = 8, ROWS = 5, RECORDS = 5, PAD = 4096, WORDS = 32768 };
+enum { BOUND = 4096, SLOTS = 8, ROWS = 3, RECORDS = 5, PAD = 4096, WORDS = 32768 };
 
 /* Old days are counted from 010100, day 10957 now. The last of them that has a reading now becomes the last day. */
 enum { OLD_FIRST_DAY = 10957, OLD_LAST_DAY = 25567, LAST_DAY = 36524 };
@@ -35,7 +35,7 @@ enum { OLD_FIRST_DAY = 10957, OLD_LAST_DAY = 25567, LAST_DAY = 36524 };
 #define V1_FRAME FRAME_WITH(98)
 #define FRAME_OF(mark, number) mark, "MILL COUNTY", number
 #define ROW "  %-66s%-10s%-10s%-32sOR%s%-75s%s*"
-#define ROW_OF(code, low, high, parity, esn) "MILL", low, high, "MILLBROOK", parity, esn, code
+#define ROW_OF(code, low, high, parity) "MILL", low, high, "MILLBROOK", parity, "84", code
 #define RECORD_WITH(street, state, company) \
     "%s%-10s%-16s%-" #street "s%-32s%-" #state "s%-31s%-10s%-" #company "s*"
 #define RECORD RECORD_WITH(66, 94, 251)
@@ -52,17 +52,13 @@ enum { OLD_FIRST_DAY = 10957, OLD_LAST_DAY = 25567, LAST_DAY = 36524 };
 /* The longest text has two bytes less than are always enough, as House Number has at most 8 digits in its 10 bytes. */
 enum { TEXT_BYTES = HAKKIYOLU_TAGGED_BYTES - 2, TAR_AT = 350, ZIP_END_AT = 275 };
 
-/* So many entries each call finds in the register, all under the one row of the guide. */
-enum { ENTRIES = 2, LAST_ENTRY = ENTRIES - 1 };
-
-/* The last byte of a record for which Version 1 has no place; the last entry gets it. */
-enum { RESERVED_END_AT = 511 };
+/* The last byte of a record for which Version 1 has no place, and the entry that gets it, the last one of two. */
+enum { RESERVED_END_AT = 511, LAST_ENTRY = 1 };
 
 /*
- * A call on a file, a number, a register, a text or a record, and what is due of it: lines checked, lines done (of a
- * guide file with the slots covered added), or the fault's position; entries, or the refusal and the slot added up;
- * slots looked at; the day in the last slot, or the refusal and the slot added up; bytes written, or the refusal and
- * the position added up.
+ * A call on a file, a number, a register, a text or a record, and what is due of it: lines checked, lines done, or the
+ * fault's position; entries, or the refusal and the slot added up; slots looked at; the day in the last slot, or the
+ * refusal and the slot added up; bytes written, or the refusal and the position added up.
  */
 struct call {
     const char *name;
@@ -83,16 +79,11 @@ static char rows[HAKKIYOLU_GUIDE_FILE_BYTES(ROWS) + 1], bad_rows[sizeof rows],
     v1_records[HAKKIYOLU_V1_DATA_FILE_BYTES(RECORDS) + 1], bad_v1_records[sizeof v1_records];
 static uint32_t answered;
 
-/*
- * The rows and the first records fill the stores; the rows then come again, and the records with a new number. The last
- * two rows renumber the zone of all entries, and back.
- */
+/* The rows and the first records fill the stores; the rows then come again, and the records with a new number. */
 static void write_files(void)
 {
-    snprintf(rows, sizeof rows, FRAME ROW ROW ROW ROW ROW FRAME, FRAME_OF("UHL", "1"),
-        ROW_OF("I", "100", "198", "E", "84"), ROW_OF("I", "300", "300", "B", "84"),
-        ROW_OF("D", "300", "300", "B", "84"), ROW_OF("C", "100", "198", "E", "85"),
-        ROW_OF("C", "100", "198", "E", "84"), FRAME_OF("UTL", "        5"));
+    snprintf(rows, sizeof rows, FRAME ROW ROW ROW FRAME, FRAME_OF("UHL", "1"), ROW_OF("I", "100", "198", "E"),
+        ROW_OF("I", "300", "300", "B"), ROW_OF("D", "300", "300", "B"), FRAME_OF("UTL", "        3"));
     snprintf(records, sizeof records, FRAME RECORD RECORD RECORD RECORD RECORD FRAME, FRAME_OF("UHL", "1"),
         RECORD_OF("I", "5035550100", "100126"), RECORD_OF("I", "5035550101", "100126"),
         RECORD_OF("C", "5035550101", "100226"), RECORD_OF("U", "5035550102", "100326"),
@@ -155,7 +146,7 @@ static uint32_t apply_guide(const void *file)
 {
     const struct hakkiyolu_taken applied = hakkiyolu_apply_guide(
         reg, sizeof reg, guide, sizeof guide, file, sizeof rows - 1, answers, sizeof answers, 0);
-    return applied.done + applied.covered + applied.position;
+    return applied.done + applied.position;
 }
 
 /* The stores as each call finds them, sound and not empty; a conversion gets a register of its own. */
@@ -306,9 +297,8 @@ int main(void)
         {"apply_data_v1", apply_data_v1, v1_records, 3},
         {"apply_data_v1_refused", apply_data_v1, bad_v1_records, HAKKIYOLU_V1_RECORD_BYTES},
         {"check_guide", check_guide, rows, ROWS}, {"check_guide_refused", check_guide, bad_rows, HAKKIYOLU_ROW_BYTES},
-        {"apply_guide", apply_guide, rows, 4 + 2 * ENTRIES},
-        {"apply_guide_refused", apply_guide, bad_rows, HAKKIYOLU_ROW_BYTES},
-        {"write_load", write_load, rows, ENTRIES}, {"write_load_v1", write_load_v1, " ", ENTRIES},
+        {"apply_guide", apply_guide, rows, 2}, {"apply_guide_refused", apply_guide, bad_rows, HAKKIYOLU_ROW_BYTES},
+        {"write_load", write_load, rows, 2}, {"write_load_v1", write_load_v1, " ", 2},
         {"write_load_v1_refused", write_load_v1, "R", HAKKIYOLU_REFUSED_NO_V1 + LAST_ENTRY},
         {"convert_register", convert_register, old_reg, LAST_DAY},
         {"convert_register_refused", convert_register, late_reg, HAKKIYOLU_REFUSED_DAY + SLOTS - 1},

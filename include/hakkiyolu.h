@@ -2,11 +2,10 @@
  * hakkiyolu.h: the C face of the Hakkiyolu location register.
  *
  * Telephone companies send data files: who has which number, and where. Counties send guide files: street ranges with
- * their emergency zone (ESN), which a county may renumber under the entries. Such a file is checked, which changes
- * nothing, and applied to a register and a guide, at once or later; a load file carries the register to a dispatch
- * centre; a lookup finds a number for the dispatcher's screen. A register that was written when days counted from
- * 010100 is converted once. A tagged data record (Version 3.1) is read into a record of a data file, and written from
- * one.
+ * their emergency zone (ESN). Such a file is checked, which changes nothing, and applied to a register and a guide, at
+ * once or later; a load file carries the register to a dispatch centre; a lookup finds a number for the dispatcher's
+ * screen. A register that was written when days counted from 010100 is converted once. A tagged data record (Version
+ * 3.1) is read into a record of a data file, and written from one.
  *
  * Data files and load files have 512-byte records (Version 2), or the 240-byte records that some private switches still
  * file (Version 1); one register takes both. The calls on Version 1 files have names that end in `_v1`, those without
@@ -15,12 +14,6 @@
  *
  * The register and the guide are plain bytes that the caller owns and lends to each call. Every call answers every
  * input, however damaged: it has no error besides the numbers below.
- *
- * REGISTER AND GUIDE ARE KEPT TOGETHER. Applying a guide file writes to both: a row of code C gives a new ESN to a row
- * of the guide and to the entries under it. So save, copy and restore the two as they were at one moment, between two
- * calls, with the last cycles of data files and of guide files. A register of one evening and a guide of another may
- * disagree about ESNs. Each is sound by itself, so no call refuses them; but a record with the ESN that the register
- * shows may be answered 19. C rows with the ESNs that hold today bring the two together again.
  *
  * Libraries: hakkiyolu_lookup is in liblookup.a; hakkiyolu_check_data, hakkiyolu_apply_data, hakkiyolu_check_guide,
  * hakkiyolu_apply_guide, hakkiyolu_write_load, hakkiyolu_check_data_v1, hakkiyolu_apply_data_v1,
@@ -35,12 +28,11 @@
  *     pointer once it has returned. The bytes need no alignment.
  *   - A call uses no heap and no global state, only a few kilobytes of stack. So calls on different buffers may run in
  *     parallel, and so may calls that only read the same buffer, as checks and lookups do. While a call writes to a
- *     buffer, as each apply does to the register, no other call may read it: locking is the caller's.
- *   - A refused call changes no lent byte. A record or row that is turned away changes only its own answer byte.
+ *     buffer, no other call may read it: locking is the caller's.
+ *   - A refused call changes no lent byte. A record that is turned away changes only its own answer byte.
  *
  * Nothing but the caller's care keeps these declarations in step with the libraries: use the header and the libraries
- * of one and the same build. What was compiled when struct hakkiyolu_taken had 28 bytes must be compiled anew: a check
- * and an apply now write 32 there. And hakkiyolu_apply_guide now needs a register that can be written to.
+ * of one and the same build.
  */
 #ifndef HAKKIYOLU_H
 #define HAKKIYOLU_H
@@ -146,8 +138,8 @@ enum hakkiyolu_refusal {
 
 /*
  * What became of one record or row of a file that was applied: its answer byte. The first that holds is told. A check
- * foretells no answer. 11 to 20 are answers to data records, 21 to 24 to guide rows. I inserts, C changes (a guide row:
- * the ESN), D deletes, U unlocks, M migrates.
+ * foretells no answer. 11 to 20 are answers to data records, 21 to 24 to guide rows. I inserts, C changes, D deletes,
+ * U unlocks, M migrates.
  */
 enum hakkiyolu_answer {
     HAKKIYOLU_ANSWER_DONE = 0,            /* accepted and applied */
@@ -163,16 +155,16 @@ enum hakkiyolu_answer {
     HAKKIYOLU_ANSWER_REGISTER_FULL = 20,  /* I: no free slot, and none has rested for 90 days by the header's date */
     HAKKIYOLU_ANSWER_ROW_CLASHES = 21,    /* I: a present row of the same street covers one of its house numbers */
     HAKKIYOLU_ANSWER_GUIDE_FULL = 22,     /* I: the guide has no free slot */
-    HAKKIYOLU_ANSWER_ROW_ABSENT = 23,     /* C: no row with these street fields, range and parity; D: and this ESN */
+    HAKKIYOLU_ANSWER_ROW_ABSENT = 23,     /* D: no row with these street fields, range, parity and ESN */
     HAKKIYOLU_ANSWER_ROW_IN_USE = 24      /* D: the row covers a held or open entry */
 };
 
 /* ---- What calls return ---------------------------------------------------------------------------------------- */
 
 /*
- * What checking and applying a file return. If it was refused, `records`, `done`, `undone` and `covered` are 0 and
- * `last` is as it was given. After a good check `records` counts the file's, `done`, `undone` and `covered` are 0, and
- * `last` is as it was given, for nothing was applied.
+ * What checking and applying a file return. If it was refused, `records`, `done` and `undone` are 0 and `last` is as it
+ * was given. After a good check `records` counts the file's, `done` and `undone` are 0, and `last` is as it was given,
+ * for nothing was applied.
  */
 struct hakkiyolu_taken {
     uint32_t refusal;  /* 0, or the refusal 1 to 9 (enum hakkiyolu_refusal) */
@@ -183,8 +175,6 @@ struct hakkiyolu_taken {
     uint32_t undone;   /* applied: how many answers are not 0; `done` and `undone` add up to `records` */
     uint32_t last;     /* the last cycle after the call: keep it, and give it to the next call on a file of this kind */
                        /* (data files of both versions are one kind) */
-    uint32_t covered;  /* guide file applied: the used slots under the rows that its C rows renumbered, added up (a */
-                       /* slot under two C rows counts twice); data file: 0 */
 };
 
 /* What writing a load file returns. If it was refused, `bytes` and `entries` are 0. */
@@ -258,7 +248,7 @@ struct hakkiyolu_taken hakkiyolu_apply_data(
  * Checks a guide file, as hakkiyolu_check_data checks a data file: tests all that applying it tests, changes nothing,
  * and is no permit. `records` is the number of its rows.
  *
- *   reg, reg_length          the register, read: 1 to 4096 slots of 520 bytes
+ *   reg, reg_length          the register, read, and so it stays in later versions: 1 to 4096 slots of 520 bytes
  *   guide, guide_length      the guide, read: 1 to 4096 slots of 208 bytes
  *   file, file_length        the guide file: header, rows of 200 bytes, trailer
  *   answers, answers_length  the answers as they will be lent to applying; only the length counts
@@ -276,15 +266,10 @@ struct hakkiyolu_taken hakkiyolu_check_guide(
  * Applies a guide file: refuses it, or applies its rows in turn, each to what the earlier ones left. All that a check
  * tests is tested here, whether or not there was one.
  *
- * A row of code I is stored, and one of code D takes a stored row away; both leave the register as it is. A row of code
- * C renumbers: the lowest row that has its street fields, Low and High (as numbers) and parity gets its ESN, and so
- * does every used slot, held, open or resting, under that row. The ESN that the row had and the free part are not
- * compared, and nothing but these five bytes of the row and of each such slot changes: a stored row keeps its code I.
- * `covered` counts the slots, also where they had that ESN. Afterwards lookups and load files show the new ESN, and a
- * data record that still has the old one is answered 19: its company files the new one, or leaves it blank.
- *
- *   reg, reg_length          the register, read and WRITTEN: 1 to 4096 slots of 520 bytes. Lend the one that belongs to
- *                            this guide, and let no other call use it meanwhile, a lookup neither
+ *   reg, reg_length          the register: 1 to 4096 slots of 520 bytes. Today it is only read. It WILL BE WRITTEN TO
+ *                            in a later version, when a county can change the ESN of a row and of the entries under it.
+ *                            So lend the register that belongs to this guide, in memory that can be written to, and let
+ *                            no other call use it meanwhile
  *   guide, guide_length      the guide, read and written: 1 to 4096 slots of 208 bytes
  *   file, file_length        the guide file: header, rows of 200 bytes, trailer
  *   answers, answers_length  one byte for each row, written; bytes past the last row stay as they are, and in a file
@@ -293,7 +278,7 @@ struct hakkiyolu_taken hakkiyolu_check_guide(
  *                            data files count their cycles apart
  */
 struct hakkiyolu_taken hakkiyolu_apply_guide(
-    uint8_t *reg, size_t reg_length,
+    const uint8_t *reg, size_t reg_length,
     uint8_t *guide, size_t guide_length,
     const uint8_t *file, size_t file_length,
     uint8_t *answers, size_t answers_length,
@@ -545,7 +530,7 @@ static inline uint32_t hakkiyolu_seen_refusal(uint64_t seen)
 
 #ifdef HAKKIYOLU_ASSERT
 HAKKIYOLU_ASSERT(sizeof(size_t) == 8, "the libraries are for x86-64: lengths have 8 bytes");
-HAKKIYOLU_ASSERT(sizeof(struct hakkiyolu_taken) == 32, "hakkiyolu_taken has 32 bytes");
+HAKKIYOLU_ASSERT(sizeof(struct hakkiyolu_taken) == 28, "hakkiyolu_taken has 28 bytes");
 HAKKIYOLU_ASSERT(offsetof(struct hakkiyolu_taken, refusal) == 0, "refusal is at 0");
 HAKKIYOLU_ASSERT(offsetof(struct hakkiyolu_taken, place) == 4, "place is at 4");
 HAKKIYOLU_ASSERT(offsetof(struct hakkiyolu_taken, position) == 8, "position is at 8");
@@ -553,7 +538,6 @@ HAKKIYOLU_ASSERT(offsetof(struct hakkiyolu_taken, records) == 12, "records is at
 HAKKIYOLU_ASSERT(offsetof(struct hakkiyolu_taken, done) == 16, "done is at 16");
 HAKKIYOLU_ASSERT(offsetof(struct hakkiyolu_taken, undone) == 20, "undone is at 20");
 HAKKIYOLU_ASSERT(offsetof(struct hakkiyolu_taken, last) == 24, "last is at 24");
-HAKKIYOLU_ASSERT(offsetof(struct hakkiyolu_taken, covered) == 28, "covered is at 28");
 HAKKIYOLU_ASSERT(sizeof(struct hakkiyolu_loaded) == 16, "hakkiyolu_loaded has 16 bytes");
 HAKKIYOLU_ASSERT(offsetof(struct hakkiyolu_loaded, refusal) == 0, "refusal is at 0");
 HAKKIYOLU_ASSERT(offsetof(struct hakkiyolu_loaded, bytes) == 4, "bytes is at 4");

@@ -204,7 +204,7 @@ fn take_rows(office: &mut Office, out: &mut impl Write) -> io::Result<bool> {
     assert_eq!(lines.len(), ROW * ROWS.len());
     let file = frame("MARION COUNTY", name.cycle, lines.as_bytes(), ROWS.len());
     let mut answers = vec![0; ROWS.len()];
-    let (register, guide) = (&mut office.register, &mut office.guide);
+    let (register, guide) = (&office.register, &mut office.guide);
     let checked = Library.check_guide(register, guide, &file, &answers, last);
     if !tell_checked(out, &name, &checked)? {
         return Ok(false);

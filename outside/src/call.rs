@@ -103,7 +103,7 @@ impl Op {
     pub fn returned(self) -> &'static [&'static str] {
         match self {
             Op::CheckData | Op::CheckGuide | Op::ApplyData | Op::ApplyGuide => &[
-                "refusal", "place", "position", "n", "done", "undone", "last", "covered",
+                "refusal", "place", "position", "n", "done", "undone", "last",
             ],
             Op::Lookup => &["refusal", "state", "slot", "looked"],
             Op::WriteLoad => &["refusal", "bytes", "entries", "slot"],
@@ -111,21 +111,7 @@ impl Op {
             Op::ReadTagged | Op::WriteTagged => &["refusal", "position", "bytes"],
         }
     }
-
-    /// The returned numbers that its line in a calls file tells: `covered` is 0 but
-    /// where rows are applied.
-    pub fn told(self) -> &'static [&'static str] {
-        match self {
-            Op::CheckData | Op::CheckGuide | Op::ApplyData => &self.returned()[..COVERED],
-            _ => self.returned(),
-        }
-    }
 }
-
-/// The place of `last` among the numbers of a check and of an apply.
-pub const LAST: usize = 6;
-/// The place of `covered`.
-pub const COVERED: usize = 7;
 
 /// A call with all it lends.
 #[derive(Clone, Debug)]
@@ -186,10 +172,10 @@ impl Call {
     }
 
     /// What this check must return to foretell an apply of the same bytes: its
-    /// refusal and n, nothing done, the last cycle as given, no slots covered.
+    /// refusal and n, nothing done, the last cycle as given.
     fn foretold(&self, applied: &Outcome) -> Vec<u32> {
         let mut returned = applied.returned.clone();
-        returned[4..].copy_from_slice(&[0, 0, self.given, 0]);
+        returned[4..].copy_from_slice(&[0, 0, self.given]);
         returned
     }
 
@@ -272,8 +258,8 @@ impl Call {
                 subject.apply_data(version, register, guide.bytes(), file, answers, last)
             }
             Op::ApplyGuide => {
-                let (register, guide) = (register.bytes_mut(), guide.bytes_mut());
-                subject.apply_guide(register, guide, file, answers.bytes_mut(), last)
+                let (guide, answers) = (guide.bytes_mut(), answers.bytes_mut());
+                subject.apply_guide(register.bytes(), guide, file, answers, last)
             }
             op => panic!("{} lends no file", op.name()),
         }
@@ -320,6 +306,5 @@ fn taken_numbers(taken: &Taken) -> Vec<u32> {
         taken.done,
         taken.undone,
         taken.last,
-        taken.covered,
     ]
 }

@@ -2,7 +2,6 @@
 //! came up.
 
 use crate::call::{Call, Op, Outcome};
-use crate::demands::MARKS;
 use crate::model::layout::{row, Field, RECORD, ROW};
 use crate::model::Version;
 use crate::occasions::OCCASIONS;
@@ -107,8 +106,8 @@ pub struct Coverage {
     damaged: [[u64; RECORD]; Part::ALL.len()],
     occasions: [u64; OCCASIONS.len()],
     mornings: [u64; Morning::ALL.len()],
-    /// Runs that have each of `MARKS`.
-    runs: [u64; MARKS.len()],
+    /// Runs with records accepted of both versions.
+    mixed: u64,
 }
 
 /// What becomes in the morning of a file that was checked good in the evening.
@@ -166,7 +165,7 @@ impl Default for Coverage {
             damaged: [[0; RECORD]; Part::ALL.len()],
             occasions: [0; OCCASIONS.len()],
             mornings: [0; Morning::ALL.len()],
-            runs: [0; MARKS.len()],
+            mixed: 0,
         }
     }
 }
@@ -215,11 +214,9 @@ impl Coverage {
         self.mornings[morning as usize] += 1;
     }
 
-    /// Counts a run that has ended by its marks.
-    pub fn note_run(&mut self, marks: [bool; MARKS.len()]) {
-        for (count, mark) in self.runs.iter_mut().zip(marks) {
-            *count += u64::from(mark);
-        }
+    /// Counts a run that has ended, if files of both versions had a part in it.
+    pub fn note_run(&mut self, is_mixed: bool) {
+        self.mixed += u64::from(is_mixed);
     }
 
     /// Each call of files and stores: its name, what it is, and its counts.
@@ -233,10 +230,11 @@ impl Coverage {
     fn occasions(&self) -> impl Iterator<Item = (&'static str, u64)> + '_ {
         let names = OCCASIONS.iter().map(|(name, _)| *name);
         let mornings = Morning::ALL.map(Morning::name).into_iter();
+        let runs = [("a run with records done of both versions", self.mixed)];
         names
             .zip(self.occasions)
             .chain(mornings.zip(self.mornings))
-            .chain(MARKS.into_iter().zip(self.runs))
+            .chain(runs)
     }
 }
 

@@ -51,7 +51,10 @@ impl Input {
         self.text.extend_from_slice(line);
         self.text.push(b'\n');
         self.desk.line(line, &mut Vec::new());
-        self.world.follow(&self.desk);
+        self.world.register.clone_from(&self.desk.register);
+        self.world.guide.clone_from(&self.desk.guide);
+        self.world.last_data = self.desk.last_data;
+        self.world.last_guide = self.desk.last_guide;
     }
 
     /// Adds a frame, its letters small, large or mixed.

@@ -36,7 +36,6 @@ impl<A: Subject, B: Subject> Explorer<'_, A, B> {
             self.conversions(&mut world)?;
         }
         self.versions(seed)?;
-        self.zones()?;
         self.centuries()
     }
 

@@ -3,7 +3,7 @@
 use crate::call::{Call, Op, Outcome};
 use crate::coverage::{Coverage, Morning, Notes};
 use crate::damage::damage;
-use crate::demands::{renumbers, round_trip, History};
+use crate::demands::{round_trip, History};
 use crate::gen::World;
 use crate::model::convert::LAST_FORMER_DAY;
 use crate::model::date::LAST_DAY;
@@ -175,10 +175,10 @@ impl<A: Subject, B: Subject> Runs for Explorer<'_, A, B> {
             let (mut call, whole) = self.next_call(&mut world, &mut random);
             let goes_on = whole || damage(&mut random, &mut self.coverage, &mut call);
             let outcome = self.compare(&call, random.below(64))?;
-            let mut kept = renumbers(&call, &outcome);
+            let mut kept = Ok(());
             if goes_on {
                 world.adopt(call.op, &outcome.returned, &outcome.lent);
-                kept = kept.and_then(|()| history.note(&call, &outcome));
+                kept = history.note(&call, &outcome);
                 let is_behind = |file: &mut Call| file.op == call.op && outcome.refusal() == 0;
                 let late = waiting.take_if(is_behind);
                 late.map_or(Ok(()), |file| {
@@ -191,7 +191,7 @@ impl<A: Subject, B: Subject> Runs for Explorer<'_, A, B> {
             }
             kept.map_err(|what| not_kept(&what, seed, &call, &outcome))?;
         }
-        self.coverage.note_run(history.marks());
+        self.coverage.note_run(history.is_of_both_versions());
         waiting.map_or(Ok(()), |file| self.morning(&file, &world, Morning::Kept))
     }
 

@@ -65,7 +65,7 @@ extern "C" {
     ) -> Taken;
 
     fn hakkiyolu_apply_guide(
-        register: *mut u8,
+        register: *const u8,
         register_length: usize,
         guide: *mut u8,
         guide_length: usize,
@@ -242,7 +242,7 @@ impl Subject for Library {
 
     fn apply_guide(
         &self,
-        register: &mut [u8],
+        register: &[u8],
         guide: &mut [u8],
         file: &[u8],
         answers: &mut [u8],
@@ -250,7 +250,7 @@ impl Subject for Library {
     ) -> Taken {
         unsafe {
             hakkiyolu_apply_guide(
-                start_mut(register),
+                start(register),
                 register.len(),
                 start_mut(guide),
                 guide.len(),
@@ -325,12 +325,10 @@ pub fn unpack(packed: u64) -> Found {
 #[cfg(test)]
 mod tests {
     use super::*;
-    use std::mem::offset_of;
 
     #[test]
     fn the_returned_structs_have_their_length() {
-        assert_eq!((size_of::<Taken>(), size_of::<Loaded>()), (32, 16));
-        assert_eq!(offset_of!(Taken, covered), 28);
+        assert_eq!((size_of::<Taken>(), size_of::<Loaded>()), (28, 16));
     }
 
     #[test]

@@ -24,4 +24,3 @@ pub mod subject;
 pub mod texts;
 pub mod town;
 pub mod vectors;
-mod zones;

@@ -40,7 +40,7 @@ pub trait Subject {
     /// Applies a guide file.
     fn apply_guide(
         &self,
-        register: &mut [u8],
+        register: &[u8],
         guide: &mut [u8],
         file: &[u8],
         answers: &mut [u8],
@@ -125,7 +125,7 @@ impl<R: Rules> Subject for Model<R> {
 
     fn apply_guide(
         &self,
-        register: &mut [u8],
+        register: &[u8],
         guide: &mut [u8],
         file: &[u8],
         answers: &mut [u8],

@@ -32,7 +32,7 @@ fn put_street(whole: &mut [u8], index: usize, row_fields: bool) {
 }
 
 /// Row number `index`: odd and even sides by turns.
-pub fn row_at(index: usize) -> [u8; ROW] {
+fn row_at(index: usize) -> [u8; ROW] {
     let mut whole = [b' '; ROW];
     put_street(&mut whole, index, true);
     let odd = index % 2;
@@ -117,25 +117,12 @@ pub fn guide_file(rows: usize) -> Vec<u8> {
     file(b"010124", 1, &all, rows)
 }
 
-/// A guide file that renumbers such rows out of order, each to another ESN.
-pub fn zones_file(records: usize, rows: usize) -> Vec<u8> {
-    let one = |place: usize| {
-        let mut whole = row_at(place * STRIDE % rows);
-        let esn = 1000 + place;
-        put(&mut whole, row::ESN, esn.to_string().as_bytes());
-        put(&mut whole, row::FUNCTION, b"C");
-        whole
-    };
-    let all: Vec<u8> = (0..records).flat_map(one).collect();
-    file(b"010224", 1, &all, records)
-}
-
 /// A full guide.
 pub fn guide(rows: usize) -> Vec<u8> {
     let mut guide = vec![0; rows * GUIDE_SLOT];
     let mut answers = vec![0; rows];
-    let (mut register, file) = ([0; REGISTER_SLOT], guide_file(rows));
-    let taken = apply_guide::<Described>(&mut register, &mut guide, &file, &mut answers, 0);
+    let register = [0; REGISTER_SLOT];
+    let taken = apply_guide::<Described>(&register, &mut guide, &guide_file(rows), &mut answers, 0);
     assert_eq!(taken.done as usize, rows);
     guide
 }

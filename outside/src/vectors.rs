@@ -41,7 +41,7 @@ pub fn parse(line: &str) -> Option<Vector> {
     let op = Op::ALL.into_iter().find(|op| op.name() == name)?;
     let (inputs, results) = (words(inputs)?, words(results)?);
     let are_known =
-        only(&inputs, op.lent(), &input_names(op)) && only(&results, op.lent(), op.told());
+        only(&inputs, op.lent(), &input_names(op)) && only(&results, op.lent(), op.returned());
     if !are_known {
         return None;
     }
@@ -109,13 +109,10 @@ fn version(op: Op, inputs: &HashMap<&str, &str>) -> Option<Version> {
 }
 
 /// A returned number that a line does not name: the bytes that a reading of a
-/// tagged text wrote, which its refusal tells, and what is 0 in all its lines.
+/// tagged text wrote, which its refusal tells.
 fn unnamed(op: Op, name: &str, refusal: &str) -> Option<u32> {
-    match (op, name) {
-        (Op::ReadTagged, "bytes") if refusal == "0" => Some(RECORD as u32),
-        (Op::ReadTagged, "bytes") => Some(0),
-        _ => (!op.told().contains(&name)).then_some(0),
-    }
+    let known = op == Op::ReadTagged && name == "bytes";
+    known.then_some(if refusal == "0" { RECORD as u32 } else { 0 })
 }
 
 /// Reads one line of OP `date`: the date and its day.
@@ -204,7 +201,7 @@ pub fn line(call: &Call, outcome: &Outcome, kind: &str) -> String {
         text += &format!(" {name}={}", hex(bytes));
     }
     text += " ->";
-    for (name, number) in call.op.told().iter().zip(&outcome.returned) {
+    for (name, number) in call.op.returned().iter().zip(&outcome.returned) {
         text += &format!(" {name}={number}");
     }
     let buffers = call.lent.iter().zip(&outcome.lent);
@@ -281,7 +278,7 @@ mod tests {
         let check = check.expect("an apply");
         assert_eq!(check.call.op, Op::CheckData);
         assert_eq!(check.call.version, Version::One);
-        assert_eq!(check.expected.returned, [0, 0, 0, 1, 0, 0, 8, 0]);
+        assert_eq!(check.expected.returned, [0, 0, 0, 1, 0, 0, 8]);
         assert_eq!(check.expected.lent, check.call.lent);
         assert!(check.check().is_none());
     }
@@ -312,29 +309,6 @@ mod tests {
         assert!(!is_read(" version=2", ""));
         assert!(!is_read(" version=2", " slot=0 other=0"));
         assert!(!is_read(" version=2 last=0", " slot=0"));
-    }
-
-    #[test]
-    fn only_an_apply_of_rows_tells_the_slots_covered() {
-        let numbers = |op: &str, version: &str, covered: &str| {
-            let line = format!(
-                "{op} last=8{version} register= guide= file= answers= -> refusal=0 place=0 \
-                 position=0 n=2 done=2 undone=0 last=9{covered} # kind"
-            );
-            parse(&line).map(|vector| vector.expected.returned)
-        };
-        let told = numbers("apply_guide", "", " covered=5");
-        assert_eq!(told, Some(vec![0, 0, 0, 2, 2, 0, 9, 5]));
-        assert_eq!(numbers("apply_guide", "", ""), None);
-        for (op, version) in [
-            ("check_guide", ""),
-            ("check_data", " version=1"),
-            ("apply_data", " version=2"),
-        ] {
-            let untold = numbers(op, version, "");
-            assert_eq!(untold, Some(vec![0, 0, 0, 2, 2, 0, 9, 0]));
-            assert_eq!(numbers(op, version, " covered=0"), None);
-        }
     }
 
     #[test]

@@ -55,7 +55,7 @@ fn check(subject: &impl Subject, apply: &Call) -> Outcome {
 
 /// What both calls return, what the apply answers, and that the check writes
 /// nothing.
-fn says(subject: &impl Subject, call: &Call, checked: [u32; 8], applied: [u32; 8], answers: &[u8]) {
+fn says(subject: &impl Subject, call: &Call, checked: [u32; 7], applied: [u32; 7], answers: &[u8]) {
     let (check, apply) = (check(subject, call), call.run(subject, 0));
     assert_eq!(
         (check.returned, check.lent),
@@ -69,8 +69,8 @@ fn says(subject: &impl Subject, call: &Call, checked: [u32; 8], applied: [u32; 8
 }
 
 fn good_checks_return_n(subject: &impl Subject) {
-    let two = [0, 0, 0, 2, 0, 0, 0, 0];
-    let half_done = [0, 0, 0, 2, 1, 1, 1, 0];
+    let two = [0, 0, 0, 2, 0, 0, 0];
+    let half_done = [0, 0, 0, 2, 1, 1, 1];
     says(
         subject,
         &data(two_inserts(), 2, 0),
@@ -82,13 +82,13 @@ fn good_checks_return_n(subject: &impl Subject) {
     says(subject, &data(two_inserts(), 4, 0), two, half_done, &spare);
     says(subject, &rows(), two, half_done, &[0, 22]);
     let empty = data(file(DATE, 1, b"", 0), 0, 0);
-    says(subject, &empty, [0; 8], [0, 0, 0, 0, 0, 0, 1, 0], b"");
-    let (one, done) = ([0, 0, 0, 1, 0, 0, 1, 0], [0, 0, 0, 1, 1, 0, 2, 0]);
+    says(subject, &empty, [0; 7], [0, 0, 0, 0, 0, 0, 1], b"");
+    let (one, done) = ([0, 0, 0, 1, 0, 0, 1], [0, 0, 0, 1, 1, 0, 2]);
     says(subject, &data(one_insert(2), 1, 1), one, done, &[0]);
     // A check says nothing of answers.
     let mut uncovered = data(one_insert(1), 1, 0);
     uncovered.lent[1] = vec![0; GUIDE_SLOT];
-    let (one, undone) = ([0, 0, 0, 1, 0, 0, 0, 0], [0, 0, 0, 1, 0, 1, 1, 0]);
+    let (one, undone) = ([0, 0, 0, 1, 0, 0, 0], [0, 0, 0, 1, 0, 1, 1]);
     says(subject, &uncovered, one, undone, &[18]);
 }
 
@@ -138,7 +138,7 @@ fn refused() -> [(Call, [u32; 3]); 12] {
 
 fn both_refuse_alike(subject: &impl Subject) {
     for (call, [refusal, place, position]) in refused() {
-        let returned = [refusal, place, position, 0, 0, 0, call.given, 0];
+        let returned = [refusal, place, position, 0, 0, 0, call.given];
         says(subject, &call, returned, returned, &call.lent[3]);
         assert_eq!(call.run(subject, 0).lent, call.lent);
     }
@@ -146,15 +146,15 @@ fn both_refuse_alike(subject: &impl Subject) {
 
 fn a_good_check_is_no_promise_for_the_morning(subject: &impl Subject) {
     let evening = data(one_insert(1), 1, 0);
-    assert_eq!(check(subject, &evening).returned, [0, 0, 0, 1, 0, 0, 0, 0]);
+    assert_eq!(check(subject, &evening).returned, [0, 0, 0, 1, 0, 0, 0]);
     // Tonight's second file is checked behind the first one's cycle.
     let second = data(one_insert(2), 1, 1);
-    assert_eq!(check(subject, &second).returned, [0, 0, 0, 1, 0, 0, 1, 0]);
+    assert_eq!(check(subject, &second).returned, [0, 0, 0, 1, 0, 0, 1]);
     let other = data(file(DATE, 1, &insert(7, DATE), 1), 1, 0).run(subject, 0);
-    assert_eq!(other.returned, [0, 0, 0, 1, 1, 0, 1, 0]);
+    assert_eq!(other.returned, [0, 0, 0, 1, 1, 0, 1]);
     let mut morning = evening;
     (morning.lent[0], morning.given) = (other.lent[0].clone(), other.returned[6]);
-    let refused = [6, 0, 0, 0, 0, 0, 1, 0];
+    let refused = [6, 0, 0, 0, 0, 0, 1];
     says(subject, &morning, refused, refused, &[UNWRITTEN]);
     assert_eq!(morning.run(subject, 0).lent, morning.lent);
 }

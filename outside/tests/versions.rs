@@ -134,7 +134,7 @@ fn answers(subject: &impl Subject, records: &[[u8; NARROW_RECORD]]) -> Vec<u8> {
 fn lengths_and_headers(subject: &impl Subject) {
     let good = file_one(&[one(&[])]);
     let done = run(subject, &data(One, good.clone(), 1));
-    assert_eq!(done.returned, [0, 0, 0, 1, 1, 0, 1, 0]);
+    assert_eq!(done.returned, [0, 0, 0, 1, 1, 0, 1]);
     assert_eq!((done.lent[0][0], done.lent[3][0]), (HELD, 0));
     assert_eq!(refusal(subject, &data(Two, good, 1)), [3, 0, 0]);
     // 2960 bytes are five records of Version 2, or eleven of Version 1.
@@ -144,7 +144,7 @@ fn lengths_and_headers(subject: &impl Subject) {
     let empty = file_one(&[]);
     assert_eq!(empty.len(), 320);
     let taken = run(subject, &data(One, empty.clone(), 0));
-    assert_eq!(taken.returned, [0, 0, 0, 0, 0, 0, 1, 0]);
+    assert_eq!(taken.returned, [0, 0, 0, 0, 0, 0, 1]);
     let cut = empty[..319].to_vec();
     assert_eq!(refusal(subject, &data(One, cut, 0)), [3, 0, 0]);
     let many = file_one(&vec![one(&[]); 10_000]);
@@ -204,7 +204,7 @@ fn one_sequence_of_cycles(subject: &impl Subject) {
         let mut call = data(version, file, 1);
         (call.given, call.lent[0]) = (last, register);
         let outcome = run(subject, &call);
-        assert_eq!(outcome.returned, [0, 0, 0, 1, 1, 0, last + 1, 0]);
+        assert_eq!(outcome.returned, [0, 0, 0, 1, 1, 0, last + 1]);
         register = outcome.lent[0].clone();
     }
     assert_eq!(register[0], RESTING);
@@ -339,7 +339,7 @@ fn a_load_file_comes_back(subject: &impl Subject) {
     let mut call = data(One, file, 1);
     call.given = 6;
     let back = run(subject, &call);
-    assert_eq!(back.returned, [0, 0, 0, 1, 1, 0, 7, 0]);
+    assert_eq!(back.returned, [0, 0, 0, 1, 1, 0, 7]);
     assert_eq!(back.lent[0], slot(HELD, &[(record::SOURCE, "C")]));
 }
 

@@ -94,21 +94,15 @@ pub extern "C" fn hakkiyolu_check_guide(
 
 #[unsafe(no_mangle)]
 pub extern "C" fn hakkiyolu_apply_guide(
-    register: &mut [u8],
+    register: &[u8],
     guide: &mut [u8],
     file: &[u8],
     answers: &mut [u8],
     last: u32,
 ) -> Taken
-    ensures { TakesGuide register.old guide.old file.now answers.old last result register.new guide.new answers.new }
+    ensures { TakesGuide register.now guide.old file.now answers.old last result guide.new answers.new }
 {
-    taking::take::apply_guide(
-        &mut register[..],
-        &mut guide[..],
-        file,
-        &mut answers[..],
-        last,
-    )
+    taking::take::apply_guide(register, &mut guide[..], file, &mut answers[..], last)
 }
 
 #[unsafe(no_mangle)]

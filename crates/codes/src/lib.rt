@@ -47,9 +47,6 @@ pub fn row_code(row: &[u8]) -> RowCode
     if b == b'D' {
         return RowCode::Delete;
     }
-    if b == b'C' {
-        return RowCode::Change;
-    }
     RowCode::NoCode
 }
 

@@ -1,7 +1,7 @@
 // Whether a row covers an address, and whether two rows clash or are the same.
 ghost use Rattle.std.specs.Prelude.{◌≡◌, min, max};
 ghost use Rattle.layout.specs.Fields.{parity_of};
-ghost use Rattle.rules.specs.Covers.{hits, over, covers, same_street, both_allow, meet_from, meets, clash, equal_numbers, same_range, same_row};
+ghost use Rattle.rules.specs.Covers.{hits, over, covers, same_street, both_allow, meet_from, meets, clash, equal_numbers, same_row};
 
 use layout::field;
 use text::Spelled;
@@ -163,23 +163,15 @@ fn are_equal(a: Spelled, b: Spelled) -> bool
     m == n
 }
 
-// Whether two rows have the same street fields, ends and parity.
-pub fn is_same_range(g: &[u8], h: &[u8]) -> bool
-    ensures { result ≡ same_range g.now h.now }
-{
-    if is_same_street(g, h) {
-        return are_equal(field::low(g), field::low(h))
-            & (are_equal(field::high(g), field::high(h)) & (field::parity(g) == field::parity(h)));
-    }
-    false
-}
-
-// Whether two rows have the same range and the same ESN.
+// Whether two rows have the same street fields, ends, parity and ESN.
 pub fn is_same_row(g: &[u8], h: &[u8]) -> bool
     ensures { result ≡ same_row g.now h.now }
 {
-    if is_same_range(g, h) {
-        return field::same_esn(field::row_esn(g), field::row_esn(h));
+    if is_same_street(g, h) {
+        return are_equal(field::low(g), field::low(h))
+            & (are_equal(field::high(g), field::high(h))
+                & ((field::parity(g) == field::parity(h))
+                    & field::same_esn(field::row_esn(g), field::row_esn(h))));
     }
     false
 }

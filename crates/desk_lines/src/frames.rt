@@ -55,20 +55,20 @@ fn collect(m: Marks, collection: &mut [u8], out: &mut [u8], bytes: &[u8]) -> Fed
 // 02: the collection is taken as a guide file, and emptied.
 fn apply_guide(
     m: Marks,
-    register: &mut [u8],
+    register: &[u8],
     guide: &mut [u8],
     collection: &[u8],
     out: &mut [u8],
 ) -> Fed
     requires { (m.collected ≤ length collection.now) × (most_said ≤ length out.old) }
     ensures { (l : List ℕ) → Lays taking_guide m
-        (bench_of register.old guide.old collection.now l out.old) result
-        (bench_of register.new guide.new collection.now l out.new) }
+        (bench_of register.now guide.old collection.now l out.old) result
+        (bench_of register.now guide.new collection.now l out.new) }
 {
     let mut answers = [0; MOST_ANSWERS];
     let n = m.collected;
     let t = taking::take::apply_guide(
-        &mut register[..],
+        register,
         &mut guide[..],
         &collection[0..n],
         &mut answers,
@@ -140,7 +140,7 @@ pub fn framed(
     if code == TAKE_GUIDE {
         return apply_guide(
             m,
-            &mut register[..],
+            &register[..],
             &mut guide[..],
             &collection[..],
             &mut out[..],

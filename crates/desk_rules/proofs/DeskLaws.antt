@@ -17,7 +17,7 @@ use Rattle.text.proofs.Laws.{and_left, and_right}
 use Rattle.rules.specs.declared.Taken.{Taken}
 use Rattle.versions.specs.declared.Version.TheVariants.{Two}
 use Rattle.rules.specs.Takes.{TakesData, TakesGuide}
-use Rattle.desk_rules.proofs.TakenLaws.{data_guide}
+use Rattle.desk_rules.proofs.TakenLaws.{guide_register, data_guide}
 use Rattle.desk_rules.specs.declared.Marks.{Marks}
 use Rattle.desk_rules.specs.Hex.{bytes_in}
 use Rattle.desk_rules.specs.Desk.{Desk, Reply, most_collected, most_typed, most_lines, most_answers, silent, unread, is_readable, line_read, next_line, line_ended, typed, stops_after, fed, ended, take_said, collecting, taking_guide, taking_data, looking, framed}
@@ -133,13 +133,19 @@ module _ (m : Marks) (R G C l out : List ℕ) (ready : is_ready m (bench_of R G 
 
   -- a take: t is what it answers, a are the answers, and n bytes are said
   module _ (t : Taken) (a o : List ℕ) (n : ℕ) (w : Writes (take_said t a) out n o) where
-    pub guide_laid : (S g : List ℕ) → TakesGuide R G (take m.collected C) (replicate most_answers 0) m.guide t S g a
+    pub guide_laid : (g : List ℕ) → TakesGuide R G (take m.collected C) (replicate most_answers 0) m.guide t g a
         → Holds (laid_out (taking_guide (desk_of m (bench_of R G C l out))) (bench_of R G C l out))
         (record { marks = record { lines = m.lines; typed = m.typed; collected = 0; guide = t.last; register = m.register }; said = n })
-        (bench_of S g C l o)
+        (bench_of R g C l o)
     unfolding taking_guide laid_out desk_of marks_of
-    guide_laid S g q =
-        rw (← q.0, ← q.1.1.1) (rw (typed_is, w.0), (q.1.0, (q.1.1.0, (refl, (over_same m.typed l, w.1)))))
+    guide_laid g q =
+        rw (← q.0, ← q.1.1) (
+          rw (typed_is, w.0),
+          (
+            guide_register (record { register = R; guide = G }) (take m.collected C) (replicate most_answers 0) m.guide,
+            (q.1.0, (refl, (over_same m.typed l, w.1))),
+          ),
+        )
 
     pub data_laid : (g : List ℕ) → TakesData Two R G (take m.collected C) (replicate most_answers 0) m.register t g a
         → Holds (laid_out (taking_data (desk_of m (bench_of R G C l out))) (bench_of R G C l out))

@@ -10,7 +10,7 @@ use Rattle.layout.specs.declared.counter.Cycle.{Cycle}
 use Rattle.layout.specs.Counters.{given_cycle}
 use Rattle.rules.specs.declared.Kind.{Kind}
 use Rattle.versions.specs.declared.Version.TheVariants.{Two}
-use Rattle.rules.specs.declared.Kind.TheVariants.{Data}
+use Rattle.rules.specs.declared.Kind.TheVariants.{Data, Guide}
 use Rattle.rules.specs.declared.Checked.{Checked}
 use Rattle.rules.specs.declared.Checked.TheVariants.{Good, Refused}
 use Rattle.rules.specs.declared.Taken.{Taken}
@@ -51,17 +51,27 @@ taken_fits k s f last e l =
     let n = length-replicate {A = ℕ} most_answers 0 in
     rw (e, l, n) ((omega arith, omega arith), omega arith)
 
--- ---- a data file leaves the guide
+-- ---- a guide file leaves the register, a data file the guide
 
-after_guide : (h : Header) (f : List ℕ) (s : Stores) (i : ℕ) → (after (Data Two) h f s i).guide ≡ s.guide
+abbrev other : Kind → Stores → List ℕ
+other Guide s = s.register
+other (Data v) s = s.guide
+
+after_other : (k : Kind) (h : Header) (f : List ℕ) (s : Stores) (i : ℕ) → other k (after k h f s i) ≡ other k s
 unfolding after line_applied
-after_guide h f s zero = refl
-after_guide h f s (suc i) = after_guide h f s i
+after_other k h f s zero = refl
+after_other Guide h f s (suc i) = after_other Guide h f s i
+after_other (Data v) h f s (suc i) = after_other (Data v) h f s i
+
+taken_other : (k : Kind) (s : Stores) (f answers : List ℕ) (last : ℕ) → other k s ≡ other k (taken k s f answers last).stores
+taken_other k s f answers last = go (checked k s f (length answers) (given_cycle last)) refl
+  where
+    go : (c : Checked) → checked k s f (length answers) (given_cycle last) ≡ c → other k s ≡ other k (taken k s f answers last).stores
+    go (Good h) e = rw (good_stores k s f answers last h e) (sym (after_other k h f s (lines_in k f)))
+    go (Refused r) e = rw (refused_stores k s f answers last r e)
+
+pub guide_register : (s : Stores) (f answers : List ℕ) (last : ℕ) → s.register ≡ (taken Guide s f answers last).stores.register
+guide_register s f answers last = taken_other Guide s f answers last
 
 pub data_guide : (s : Stores) (f answers : List ℕ) (last : ℕ) → s.guide ≡ (taken (Data Two) s f answers last).stores.guide
-data_guide s f answers last = go (checked (Data Two) s f (length answers) (given_cycle last)) refl
-  where
-    go : (c : Checked) → checked (Data Two) s f (length answers) (given_cycle last) ≡ c
-        → s.guide ≡ (taken (Data Two) s f answers last).stores.guide
-    go (Good h) e = rw (good_stores (Data Two) s f answers last h e) (sym (after_guide h f s (lines_in (Data Two) f)))
-    go (Refused r) e = rw (refused_stores (Data Two) s f answers last r e)
+data_guide s f answers last = taken_other (Data Two) s f answers last

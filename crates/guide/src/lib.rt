@@ -1,10 +1,10 @@
 // The guide's slots of 208 bytes: what is read from one, the walks over them, and all that writes one: no other crate does.
 ghost use Rattle.std.specs.Prelude.{◌≡◌, false, ◌&&◌, ◌≤◌, length, replicate};
 ghost use Rattle.rules.specs.Walks.{sought};
-ghost use Rattle.rules.specs.Slots.{row_slots, row_slot_at, is_present, is_vacant, row_of, row_written, row_rezoned};
+ghost use Rattle.rules.specs.Slots.{row_slots, row_slot_at, is_present, is_vacant, row_of, row_written};
 ghost use Rattle.rules.specs.Covers.{over};
 ghost use Rattle.rules.specs.Records.{is_over};
-ghost use Rattle.rules.specs.Rows.{clashes_by, clash_at, vacant_at, is_same_by, same_at, is_range_by, range_at};
+ghost use Rattle.rules.specs.Rows.{clashes_by, clash_at, vacant_at, is_same_by, same_at};
 ghost use Rattle.guide.specs.Streets.{is_on, Elsewhere};
 
 use layout::{field, place};
@@ -225,40 +225,6 @@ pub fn find_same(guide: &[u8], g: &[u8]) -> Sought
     }
 }
 
-// A present row of the same range as another.
-fn is_range(slot: &[u8], g: &[u8]) -> bool
-    ensures { result ≡ is_range_by g.now slot.now }
-{
-    if is_present(slot) {
-        return cover::is_same_range(row(slot), g);
-    }
-    false
-}
-
-// The lowest row of the same range as another.
-pub fn find_range(guide: &[u8], g: &[u8]) -> Sought
-    ensures { result ≡ sought (range_at g.now guide.now) (row_slots guide.now) }
-{
-    let n = guide.len() / SLOT;
-    let street = field::row_street(g);
-    let mut i = next_on(guide, street, 0);
-    while i < n {
-        let a = i * SLOT;
-        let e = a + SLOT;
-        if is_range(&guide[a..e], g) {
-            return Sought {
-                found: Found::At(i),
-                looked: i + 1,
-            };
-        }
-        i = next_on(guide, street, i + 1);
-    }
-    Sought {
-        found: Found::Nothing,
-        looked: i,
-    }
-}
-
 // A row stored in a slot that has room for it.
 pub fn write_row(slot: &mut [u8], g: &[u8])
     ensures { slot.new ≡ row_written g.now slot.old }
@@ -272,15 +238,4 @@ pub fn clear_row(slot: &mut [u8])
     ensures { slot.new ≡ replicate (length slot.old) 0 }
 {
     text::fill(&mut slot[..], 0);
-}
-
-// Another ESN in a slot that has room for it; no other byte changes.
-pub fn rezone_row(slot: &mut [u8], esn: &[u8])
-    ensures { slot.new ≡ row_rezoned esn.now slot.old }
-{
-    text::put(
-        &mut slot[..],
-        ROW_AT + place::ROW_ESN_AT,
-        text::part_of(esn, 0, place::ROW_ESN_SIZE),
-    );
 }

@@ -55,7 +55,7 @@ keeps_frame r f =
     false)))
 
 -- "Source a space or `C`; ESN blank or 1 to 5 digits; Company ID not blank, capitals and digits"; dates; `*`; in a guide row the
--- ESN is never blank and Function is `I`, `D` or, by 2026-05, `C`
+-- ESN is never blank and Function is `I` or `D`
 unfoldable pub keeps_other : ℕ → List ℕ → Bool
 keeps_other r f =
     cond (eqb r space_or_c) (all_of (32 ∷ 67 ∷ []) f)
@@ -64,7 +64,7 @@ keeps_other r f =
     (cond (eqb r mmddyy) (is_date f)
     (cond (eqb r star) (all_of (42 ∷ []) f)
     (cond (eqb r row_zone) (runs_of Digit 1 5 f)
-    (cond (eqb r row_code) (all_of (73 ∷ 68 ∷ 67 ∷ []) f)
+    (cond (eqb r row_code) (all_of (73 ∷ 68 ∷ []) f)
     (cond (eqb r first_code) (all_of (67 ∷ 68 ∷ 73 ∷ []) f)
     (keeps_frame r f))))))))
 

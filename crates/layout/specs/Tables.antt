@@ -81,7 +81,7 @@ parity_letter = 18
 abbrev pub row_zone : ℕ
 row_zone = 19
 
--- `I`, `D` or `C`
+-- `I` or `D`
 abbrev pub row_code : ℕ
 row_code = 20
 

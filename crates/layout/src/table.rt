@@ -81,10 +81,10 @@ pub const ROW_ZONE_LEAST: usize = 1;
 
 pub const ROW_ZONE_MOST: usize = 5;
 
-// `I`, `D` or `C`.
+// `I` or `D`.
 pub const ROW_CODE: usize = 20;
 
-pub const ROW_CODES: [u8; 3] = [b'I', b'D', b'C'];
+pub const ROW_CODES: [u8; 2] = [b'I', b'D'];
 
 // `UHL` and two spaces.
 pub const OPENING: usize = 21;

@@ -236,8 +236,7 @@ fn write_narrow(line: &mut [u8], rec: &[u8])
 {
     let mut wide = [b' '; place::RECORD_SIZE];
     write_wide(&mut wide, rec);
-    let mut narrow = [b' '; place::NARROW_SIZE];
-    versions::narrow(&wide, &mut narrow);
+    let narrow = versions::narrowed(&wide);
     text::put(&mut line[..], 0, &narrow);
 }
 

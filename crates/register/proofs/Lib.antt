@@ -1,3 +1,1 @@
 pub mod ShownLaws
-pub mod UnderLaws
-pub mod ZoneTurns

@@ -1,10 +1,9 @@
 // The register's slots of 520 bytes: what is read from one, the walks over them, and all that writes one: no other crate does.
-ghost use Rattle.std.specs.Prelude.{◌≡◌, false, ◌≤◌};
-ghost use Rattle.rules.specs.Walks.{sought, count};
-ghost use Rattle.rules.specs.Slots.{slots, slot_at, state_of, is_used, is_live, slot_day, record_of, restated, written, rezoned};
+ghost use Rattle.std.specs.Prelude.{◌≡◌};
+ghost use Rattle.rules.specs.Walks.{sought};
+ghost use Rattle.rules.specs.Slots.{slots, slot_at, state_of, is_used, is_live, slot_day, record_of, restated, written};
 ghost use Rattle.rules.specs.Records.{is_of, has_number, is_free_slot, free_at, is_reusable, reusable_at, shown};
-ghost use Rattle.rules.specs.Rows.{entry_under, used_under, rezoned_to};
-ghost use Rattle.register.specs.Under.{is_on, NoneOn, is_asked, is_under, NextUnder};
+ghost use Rattle.rules.specs.Rows.{is_entry_under, entry_under};
 ghost use Rattle.text.specs.Text.{same_bytes};
 
 use calendar::Day;
@@ -192,78 +191,14 @@ pub fn find_reusable(register: &[u8], today: Day) -> Sought
     }
 }
 
-// Whether a slot in this state is asked for: an entry or, with the resting ones, any used slot.
-fn is_asked(state: u8, resting: bool) -> bool
-    ensures { result ≡ is_asked resting state }
+// A held or open entry under a row.
+fn is_entry_under(slot: &[u8], row: &[u8]) -> bool
+    ensures { result ≡ is_entry_under row.now slot.now }
 {
-    if resting {
-        return is_used(state);
-    }
-    is_live(state)
-}
-
-// A slot that is asked for, and that a row covers.
-fn is_under(slot: &[u8], row: &[u8], resting: bool) -> bool
-    ensures { result ≡ is_under resting row.now slot.now }
-{
-    if is_asked(state(slot), resting) {
+    if is_live(state(slot)) {
         return cover::does_cover(row, rec(slot));
     }
     false
-}
-
-// Whether the record in a slot may be of a street: the first sixteen bytes, two words, nearly always tell two streets apart.
-fn may_be_on(slot: &[u8], street: &[u8]) -> bool
-    ensures { result ≡ false → is_on street.now slot.now ≡ false }
-{
-    let own = field::street(rec(slot));
-    if 16 <= street.len() {
-        if 16 <= own.len() {
-            if text::are_eight_same(street, own, 0) {
-                return text::are_eight_same(street, own, 8);
-            }
-            return false;
-        }
-    }
-    true
-}
-
-// The first slot from i on that may be of a street, or how many slots there are. A walk for what lies under a row looks only at such
-// slots: this loop, which runs over all the others, is kept short.
-fn next_on(register: &[u8], street: &[u8], i: usize) -> usize
-    requires { i ≤ slots register.now }
-    ensures { (i ≤ result) × (result ≤ slots register.now) × NoneOn street.now register.now i result }
-{
-    let n = register.len() / SLOT;
-    let mut j = i;
-    while j < n {
-        let a = j * SLOT;
-        let e = a + SLOT;
-        if may_be_on(&register[a..e], street) {
-            return j;
-        }
-        j += 1;
-    }
-    j
-}
-
-// The first slot from i on that is asked for and that a row covers, or how many slots there are: both walks for what lies under a row.
-fn next_under(register: &[u8], row: &[u8], resting: bool, i: usize) -> usize
-    requires { i ≤ slots register.now }
-    ensures { NextUnder resting row.now register.now i result }
-{
-    let n = register.len() / SLOT;
-    let street = field::row_street(row);
-    let mut j = next_on(register, street, i);
-    while j < n {
-        let a = j * SLOT;
-        let e = a + SLOT;
-        if is_under(&register[a..e], row, resting) {
-            return j;
-        }
-        j = next_on(register, street, j + 1);
-    }
-    j
 }
 
 // The lowest held or open entry under a row.
@@ -271,12 +206,17 @@ pub fn find_entry(register: &[u8], row: &[u8]) -> Sought
     ensures { result ≡ sought (entry_under row.now register.now) (slots register.now) }
 {
     let n = register.len() / SLOT;
-    let i = next_under(register, row, false, 0);
-    if i < n {
-        return Sought {
-            found: Found::At(i),
-            looked: i + 1,
-        };
+    let mut i: usize = 0;
+    while i < n {
+        let a = i * SLOT;
+        let e = a + SLOT;
+        if is_entry_under(&register[a..e], row) {
+            return Sought {
+                found: Found::At(i),
+                looked: i + 1,
+            };
+        }
+        i += 1;
     }
     Sought {
         found: Found::Nothing,
@@ -313,33 +253,4 @@ pub fn write_shown(slot: &mut [u8], state: u8, day: Day, rec: &[u8], row: &[u8])
         let e = RECORD_AT + rec.len();
         field::fill_esn(&mut slot[RECORD_AT..e], field::row_esn(row));
     }
-}
-
-// Another ESN in the record of a slot that has room for it; no other byte changes.
-fn rezone(slot: &mut [u8], esn: &[u8])
-    ensures { slot.new ≡ rezoned esn.now slot.old }
-{
-    text::put(
-        &mut slot[..],
-        RECORD_AT + place::ESN_AT,
-        text::part_of(esn, 0, place::ESN_SIZE),
-    );
-}
-
-// Every used slot under a row gets another ESN; how many they are.
-pub fn rezone_under(register: &mut [u8], row: &[u8], esn: &[u8]) -> usize
-    ensures { (result ≡ count (used_under row.now register.old) (slots register.old))
-        × (register.new ≡ rezoned_to row.now esn.now register.old (slots register.old)) }
-{
-    let n = register.len() / SLOT;
-    let mut covered: usize = 0;
-    let mut i = next_under(&register[..], row, true, 0);
-    while i < n {
-        let a = i * SLOT;
-        let e = a + SLOT;
-        rezone(&mut register[a..e], esn);
-        covered += 1;
-        i = next_under(&register[..], row, true, i + 1);
-    }
-    covered
 }

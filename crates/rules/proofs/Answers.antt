@@ -28,7 +28,7 @@ use Rattle.rules.specs.declared.Kind.TheVariants.{Data, Guide}
 use Rattle.rules.specs.declared.Filed.{Filed}
 use Rattle.rules.specs.declared.Filed.TheVariants.{Record, NoRecord}
 use Rattle.rules.specs.declared.RowCode.{RowCode}
-use Rattle.rules.specs.declared.RowCode.TheVariants.{Insert as InsertRow, Delete as DeleteRow, Change as ChangeRow, NoCode}
+use Rattle.rules.specs.declared.RowCode.TheVariants.{Insert as InsertRow, Delete as DeleteRow, NoCode}
 use Rattle.rules.specs.declared.Seen.{Seen}
 use Rattle.rules.specs.declared.Checked.{Checked}
 use Rattle.rules.specs.declared.Checked.TheVariants.{Good, Refused}
@@ -39,7 +39,7 @@ use Rattle.rules.specs.declared.Found.TheVariants.{At, Nothing}
 use Rattle.rules.specs.Walks.{find, or_else, is_nothing, on_found}
 use Rattle.rules.specs.Slots.{slots, slot_at, good_length, register_sound}
 use Rattle.rules.specs.Records.{filed_of, is_insert, find_number, find_row, free_at, reusable_at, find_free, find_reusable, find_spare, table, answer_of, Step, step, applied}
-use Rattle.rules.specs.Rows.{row_code_of, find_clash, find_vacant, find_same, find_range, insert_table, delete_table, change_table, row_answer_of, RowStep, row_step, row_applied}
+use Rattle.rules.specs.Rows.{row_code_of, find_clash, find_vacant, find_same, insert_table, delete_table, row_answer_of, RowStep, row_applied}
 use Rattle.rules.specs.Takes.{Stores, shape_of, line_fault, line_at, lines_in, refuse, checked, line_applied, answer_at, answers_to, after, refused_file, applied_file, on_checked, taken}
 use Rattle.rules.specs.Checks.{AllForetold}
 use Rattle.rules.specs.Lookups.{is_number, seen_in, unseen, seen, packed}
@@ -47,7 +47,6 @@ use Rattle.rules.specs.Loads.{is_entry, load_size, load_header, later_at, wide_a
 use Rattle.rules.specs.Answered.{take_numbers, record_numbers, answer_numbers, load_numbers, lookup_numbers, TakeRefused, NoneHits, TakeDone, TakeAnswered, TakesAnswer, LinesAnswer, Full, FullsAnswer, LoadAnswered, LoadsAnswer, LookupsAnswer, OneData, OneGuide, OneLoad, OneLookup}
 use Rattle.rules.specs.Answered.{ChecksAnswer, OneCheck}
 use Rattle.rules.proofs.WalkLaws.{clash-bool, find_some, find_none, find_nowhere, is_nothing_lem, numbers_in, first_in, hit_by, first_hit, first_some}
-use Rattle.rules.proofs.CoveredLaws.{covered_le}
 use Rattle.rules.proofs.TakeLaws.{line_not, answers_length, answer_is, done_undone}
 use Rattle.rules.proofs.CheckLaws.{all_foretold}
 use Rattle.rules.proofs.FaultLaws.{line_fault_starts}
@@ -79,12 +78,11 @@ row_number : (R G g : List ℕ) (c : RowCode) → member_of (row_answer_of R G g
 unfolding numbers_in
 row_number R G g InsertRow = first_in (answer_numbers Guide) (insert_table (find_clash g G) (find_vacant G)) refl refl
 row_number R G g DeleteRow = first_in (answer_numbers Guide) (delete_table R G (find_same g G)) refl refl
-row_number R G g ChangeRow = first_in (answer_numbers Guide) (change_table (find_range g G)) refl refl
 row_number R G g NoCode = refl
 
--- also where the stores that it leaves stand beside it
+-- also where the guide that it leaves stands beside it
 row_applied_number : (R G : List ℕ) (h : Header) (g : List ℕ) → member_of (row_applied R G h g).answer (answer_numbers Guide) ≡ true
-unfolding row_applied row_step
+unfolding row_applied
 row_applied_number R G h g =
     picked (λ (s : RowStep). s.answer) (answer_numbers Guide) (eqb (row_answer_of R G g (row_code_of g)) 0) _ _ refl (row_number R G g (row_code_of g))
 
@@ -181,7 +179,7 @@ module _ (k : Kind) (s : Stores) (f answers : List ℕ) (last : ℕ) where
       → TakeRefused s answers last (refused_file (record { number = n; place = place; position = position }) s answers last)
   unfolding refused_file
   refused_file_lem n place position =
-      record { stores = refl; answers = refl; records = refl; done = refl; undone = refl; last = refl; covered = refl }
+      record { stores = refl; answers = refl; records = refl; done = refl; undone = refl; last = refl }
 
   -- by a number that is neither 0 nor 9
   refused_plain : (n : ℕ) → member_of n take_numbers ≡ true → n ≢ 0 → n ≢ 9 → outcome (refuse n)
@@ -229,7 +227,6 @@ module _ (k : Kind) (s : Stores) (f answers : List ℕ) (last : ℕ) where
         records = refl;
         counts = done_undone k h f s n;
         last = refl;
-        covered = covered_le k h f s n;
         each = e;
         number = λ i m. ap (λ x. member_of x (answer_numbers k)) (e i m) ∙ line_number k h (line_at k f i) (after k h f s i);
         rest = drop_at a (drop n answers) n l;
@@ -287,7 +284,6 @@ check_answered k s f answers last =
       done = e.done;
       undone = e.undone;
       last = e.last;
-      covered = e.covered;
     }
 
 -- ---- the load file
@@ -414,12 +410,6 @@ one_take : {t u x : Taken} {S T y a b z : List ℕ} → (t ≡ x) × ((S ≡ y) 
     → (t ≡ u) × ((S ≡ T) × (a ≡ b))
 one_take p q = (p.0 ∙ sym q.0, (p.1.0 ∙ sym q.1.0, p.1.1 ∙ sym q.1.1))
 
--- so is the other store that a guide file writes
-one_rows : {t u x : Taken} {S T y H K o a b z : List ℕ} → (t ≡ x) × ((S ≡ y) × ((H ≡ o) × (a ≡ z)))
-    → (u ≡ x) × ((T ≡ y) × ((K ≡ o) × (b ≡ z))) → (t ≡ u) × ((S ≡ T) × ((H ≡ K) × (a ≡ b)))
-one_rows p q =
-    (p.0 ∙ sym q.0, (p.1.0 ∙ sym q.1.0, (p.1.1.0 ∙ sym q.1.1.0, p.1.1.1 ∙ sym q.1.1.1)))
-
 -- so the promise of each take admits one outcome,
 pub one_data : OneData
 unfolding OneData
@@ -427,7 +417,7 @@ one_data v R G f answers last t u S T a b p q = one_take p q
 
 pub one_guide : OneGuide
 unfolding OneGuide
-one_guide R G f answers last t u S T H K a b p q = one_rows p q
+one_guide R G f answers last t u S T a b p q = one_take p q
 
 -- and so does that of a check, of a load file and of a lookup
 pub one_check : OneCheck

@@ -51,10 +51,10 @@ all_foretold k s f answers last = go (tested k s f answers last) refl
         → Foretells last (foretold k s f answers last) (taken k s f answers last).result
     go (Good h) e =
         rw (check_good k s f answers last h e, good_is k s f answers last h e)
-        (record { refusal = refl; place = refl; position = refl; records = refl; done = refl; undone = refl; last = refl; covered = refl })
+        (record { refusal = refl; place = refl; position = refl; records = refl; done = refl; undone = refl; last = refl })
     go (Refused r) e =
         rw (check_refused k s f answers last r e, refused_is k s f answers last r e)
-        (record { refusal = refl; place = refl; position = refl; records = refl; done = refl; undone = refl; last = refl; covered = refl })
+        (record { refusal = refl; place = refl; position = refl; records = refl; done = refl; undone = refl; last = refl })
 
 -- the tests are given the length of the answers buffer, and a refused file returns nothing of it
 pub length_alone : LengthAlone

@@ -14,7 +14,7 @@ use Rattle.text.specs.declared.Spelled.TheVariants.{Number, NoNumber}
 use Rattle.text.specs.Text.{same_bytes, on_number}
 use Rattle.text.proofs.Laws.{and_left, and_right, or_left, or_right, same_true, same_refl}
 use Rattle.layout.specs.Fields.{house_of, street_of, place_of, row_street_of, row_place_of, low_of, high_of, parity_of, allows, row_esn_of, same_esn}
-use Rattle.rules.specs.Covers.{hits, over, covers, same_street, both_allow, meet_from, meets, clash, Shared, ClashExactly, equal_numbers, same_range, RangeAlike, same_row, SameAlike}
+use Rattle.rules.specs.Covers.{hits, over, covers, same_street, both_allow, meet_from, meets, clash, Shared, ClashExactly, equal_numbers, same_row, SameAlike}
 use Rattle.rules.proofs.WalkLaws.{decided, clash-bool}
 
 -- ---- numbers in two ranges
@@ -276,32 +276,27 @@ equal_read (Number m) (Number n) e = ap Number (eqb-true m n e)
 equal_read (Number m) NoNumber e = clash-bool e refl
 equal_read NoNumber b e = clash-bool e refl
 
--- so are both ends of rows of the same range, and their street fields and parity are equal bytes
-pub range_alike : RangeAlike
-unfolding RangeAlike same_range same_street over hits
-range_alike g h e st t n =
+-- so are both ends of the same row, and its street fields, parity and ESN are equal bytes
+pub same_alike : SameAlike
+unfolding SameAlike same_row same_street over hits
+same_alike g h e =
     let a = same_street g h in
     let b = equal_numbers (low_of g) (low_of h) in
     let c = equal_numbers (high_of g) (high_of h) in
     let p = eqb (parity_of g) (parity_of h) in
-    let s = and_left a (b && (c && p)) e in
-    let v = and_right a (b && (c && p)) e in
-    let w = and_right b (c && p) v in
+    let z = same_esn (row_esn_of g) (row_esn_of h) in
+    let s = and_left a (b && (c && (p && z))) e in
+    let v = and_right a (b && (c && (p && z))) e in
+    let w = and_right b (c && (p && z)) v in
+    let x = and_right c (p && z) w in
     let street = same_true (row_street_of g) (row_street_of h)
     (and_left (same_bytes (row_street_of g) (row_street_of h)) (same_bytes (row_place_of g) (row_place_of h)) s) in
     let town = same_true (row_place_of g) (row_place_of h)
     (and_right (same_bytes (row_street_of g) (row_street_of h)) (same_bytes (row_place_of g) (row_place_of h)) s) in
-    let low = equal_read (low_of g) (low_of h) (and_left b (c && p) v) in
-    let high = equal_read (high_of g) (high_of h) (and_left c p w) in
-    let parity = eqb-true (parity_of g) (parity_of h) (and_right c p w) in
-    rw (street, town, low, high, parity) refl
-
--- and the same row has the same ESN too
-pub same_alike : SameAlike
-unfolding SameAlike same_row RangeAlike
-same_alike g h e =
-    let z = same_esn (row_esn_of g) (row_esn_of h) in
+    let low = equal_read (low_of g) (low_of h) (and_left b (c && (p && z)) v) in
+    let high = equal_read (high_of g) (high_of h) (and_left c (p && z) w) in
+    let parity = eqb-true (parity_of g) (parity_of h) (and_left p z x) in
     record {
-      numbers = range_alike g h (and_left (same_range g h) z e);
-      zone = same_true (row_esn_of g) (row_esn_of h) (and_right (same_range g h) z e);
+      numbers = λ st t n. rw (street, town, low, high, parity) refl;
+      zone = same_true (row_esn_of g) (row_esn_of h) (and_right p z x);
     }

@@ -1,21 +1,22 @@
--- A record with the ESN of a row, and one whose blank ESN is filled in from it: its ESN is the row's, and its other fields are as they
--- were.
+-- A record whose blank ESN is filled in from a row: its ESN is the row's, and its other fields are as they were.
 -- Assumes nothing.
 use mathlib.Core.Path.{◌≡◌, refl, sym, ap, ◌∙◌}
-use mathlib.Core.Bool.{Bool, true, false, not, cond}
-use mathlib.Core.List.{List}
+use mathlib.Core.Bool.{Bool, true, false, ◌||◌, not, cond}
+use mathlib.Core.List.{List, ◌++◌}
 use Prim.Native.Nat.{ℕ, ◌+◌, ◌-◌, ◌≤◌}
 use native.Mathlib.Omega.{arith}
-use lib.ListN.{length, get_or}
+use lib.Dec.{leb}
+use lib.ListN.{length, take, drop, get_or}
 use lib.Seq.{take_all, get_or-take}
+use borrow.Author.Tests.{leb-true}
 use Rattle.text.specs.Text.{blank, part, put_at}
 use Rattle.calendar.specs.Calendar.{day_of}
 use Rattle.layout.specs.Tables.{data_record, guide_row, start_of, size_of, field, span, function, npa, calling_number, house_number, prefix, post, community, state, esn, date, company_id, row_esn}
 use Rattle.layout.specs.Fields.{function_of, number_of, house_in, house_of, street_of, place_of, esn_of, has_esn, date_of, company_of, row_esn_of, with_esn}
 use Rattle.rules.specs.Covers.{covers}
 use Rattle.rules.specs.Records.{shown, filed_of}
-use Rattle.rules.proofs.PlaceLaws.{part_length}
-use Rattle.rules.proofs.SlotLaws.{Whole, WholeRow, clear_of, put_length, put_same, put_clear, put_twice, put_own}
+use Rattle.rules.proofs.PlaceLaws.{part_length, mid_length, mid_same, mid_before, mid_after}
+use Rattle.rules.proofs.SlotLaws.{Whole, WholeRow, put_is}
 
 -- where the table of fields has the ESN
 abbrev pub esn_at : ℕ
@@ -26,30 +27,7 @@ esn_size = size_of data_record esn
 
 -- the n bytes from a lie before the ESN or after it
 abbrev pub clear_of_esn : ℕ → ℕ → Bool
-clear_of_esn a n = clear_of esn_at esn_size a n
-
--- a record's ESN has five bytes, and writing one adds none
-pub esn_five : (r : List ℕ) → Whole r → length (esn_of r) ≡ esn_size
-unfolding esn_of
-esn_five r k = part_length esn_at esn_size r (omega arith)
-
-pub with_length : (e r : List ℕ) → length (with_esn e r) ≡ length r
-unfolding with_esn
-with_length e r = put_length esn_at (part 0 esn_size e) r
-
--- writing five bytes as the ESN: over others it is as if those had never stood there
-pub with_twice : (e f r : List ℕ) → length e ≡ esn_size → length f ≡ esn_size → Whole r → with_esn e (with_esn f r) ≡ with_esn e r
-unfolding with_esn
-with_twice e f r p q k =
-    rw (take_all esn_size e (omega arith), take_all esn_size f (omega arith))
-    (put_twice esn_at esn_size f r q (omega arith) e p)
-
--- and a record's own ESN changes nothing
-pub with_own : (r : List ℕ) → Whole r → with_esn (esn_of r) r ≡ r
-unfolding with_esn esn_of
-with_own r k =
-    let l = part_length esn_at esn_size r (omega arith) in
-    rw (take_all esn_size (part esn_at esn_size r) (omega arith)) (put_own esn_at esn_size r (omega arith))
+clear_of_esn a n = leb (a + n) esn_at || leb (esn_at + esn_size) a
 
 module _ (g r : List ℕ) (f : WholeRow g) (k : Whole r) where
   -- a row's ESN has as many bytes as a record's
@@ -61,24 +39,29 @@ module _ (g r : List ℕ) (f : WholeRow g) (k : Whole r) where
   room = omega arith
 
   -- the row's bytes in the place of those that stood there
-  with_is : with_esn (row_esn_of g) r ≡ put_at esn_at (row_esn_of g) r
+  with_is : with_esn (row_esn_of g) r ≡ take esn_at r ++ (row_esn_of g ++ drop esn_size (drop esn_at r))
   unfolding with_esn
   with_is =
       let l : length (row_esn_of g) ≡ esn_size = length_row_esn in
-      ap (λ x. put_at esn_at x r) (take_all esn_size (row_esn_of g) (omega arith))
+      ap (λ x. put_at esn_at x r) (take_all esn_size (row_esn_of g) (omega arith)) ∙ put_is esn_at esn_size (row_esn_of g) r l room
 
   -- the record has 512 bytes still
   pub whole_with : Whole (with_esn (row_esn_of g) r)
-  whole_with = with_length (row_esn_of g) r ∙ k
+  whole_with = ap length with_is ∙ mid_length r (row_esn_of g) esn_at esn_size room length_row_esn ∙ k
 
   -- the ESN is the row's
   pub esn_with : esn_of (with_esn (row_esn_of g) r) ≡ row_esn_of g
   unfolding esn_of
-  esn_with = ap (part esn_at esn_size) with_is ∙ put_same esn_at esn_size (row_esn_of g) r length_row_esn room
+  esn_with = ap (part esn_at esn_size) with_is ∙ mid_same r (row_esn_of g) esn_at esn_size room length_row_esn
 
-  -- bytes clear of it are as they were
+  -- bytes clear of it are as they were: one law for every other field, and for fields that follow one another
   pub part_with : (a n : ℕ) → clear_of_esn a n ≡ true → part a n (with_esn (row_esn_of g) r) ≡ part a n r
-  part_with a n c = ap (part a n) with_is ∙ put_clear esn_at esn_size (row_esn_of g) r length_row_esn room a n c
+  part_with a n c = ap (part a n) with_is ∙ go (leb (a + n) esn_at) refl c
+    where
+      go : (b : Bool) → leb (a + n) esn_at ≡ b → b || leb (esn_at + esn_size) a ≡ true
+          → part a n (take esn_at r ++ (row_esn_of g ++ drop esn_size (drop esn_at r))) ≡ part a n r
+      go true q c = mid_before r (row_esn_of g) esn_at esn_size room length_row_esn a n (leb-true (a + n) esn_at q)
+      go false q c = mid_after r (row_esn_of g) esn_at esn_size room length_row_esn a n (leb-true (esn_at + esn_size) a c)
 
   -- field j, and the fields i to j, of the table
   pub field_with : (j : ℕ) → clear_of_esn (start_of data_record j) (size_of data_record j) ≡ true
@@ -154,21 +137,18 @@ module _ (g r : List ℕ) (f : WholeRow g) (k : Whole r) where
       go true = refl
       go false = e
 
-  -- so an entry shows the record with the row's ESN, if the record's own is blank or is that
-  pub shown_with : (has_esn r ≡ true → esn_of r ≡ row_esn_of g) → shown r g ≡ with_esn (row_esn_of g) r
-  shown_with e = go (has_esn r) refl
-    where
-      go : (b : Bool) → has_esn r ≡ b → shown r g ≡ with_esn (row_esn_of g) r
-      go true q = shown_has q ∙ sym (rw (← e q) (with_own r k))
-      go false q = shown_blank q
-
   -- it has 512 bytes
   pub whole_shown : Whole (shown r g)
   whole_shown = shown_same length (whole_with ∙ sym k) ∙ k
 
-  -- the ESN shown is then the row's
+  -- the ESN shown is the row's, if the record's own is blank or is that
   pub esn_shown : (has_esn r ≡ true → esn_of r ≡ row_esn_of g) → esn_of (shown r g) ≡ row_esn_of g
-  esn_shown e = ap esn_of (shown_with e) ∙ esn_with
+  unfolding shown
+  esn_shown e = go (has_esn r) refl
+    where
+      go : (b : Bool) → has_esn r ≡ b → esn_of (cond b r (with_esn (row_esn_of g) r)) ≡ row_esn_of g
+      go true q = e q
+      go false q = esn_with
 
   -- and it is not blank, if the row's is not
   pub has_shown : blank (row_esn_of g) ≡ false → has_esn (shown r g) ≡ true

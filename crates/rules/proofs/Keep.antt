@@ -14,7 +14,7 @@ use Rattle.text.specs.declared.Spelled.TheVariants.{Number, NoNumber}
 use Rattle.text.specs.Text.{on_number}
 use Rattle.layout.specs.declared.frame.Header.{Header}
 use Rattle.layout.specs.Counters.{given_cycle}
-use Rattle.layout.specs.Fields.{house_of, street_of, place_of, with_esn}
+use Rattle.layout.specs.Fields.{house_of, street_of, place_of}
 use Rattle.rules.proofs.WideLaws.{wide_whole}
 use Rattle.rules.specs.declared.Kind.{Kind}
 use Rattle.rules.specs.declared.Kind.TheVariants.{Data, Guide}
@@ -24,7 +24,7 @@ use Rattle.rules.specs.declared.Checked.TheVariants.{Good, Refused}
 use Rattle.rules.specs.Walks.{count}
 use Rattle.rules.specs.Slots.{slots, slot_at, state_of, record_of, is_held, is_open, is_used, is_live, row_slot_at, row_of}
 use Rattle.rules.specs.Covers.{over, covers}
-use Rattle.rules.specs.Records.{applied, stores}
+use Rattle.rules.specs.Records.{applied, stores, shown}
 use Rattle.rules.specs.Rows.{row_code_of, row_applied}
 use Rattle.rules.specs.Takes.{Stores, shape_of, lines_in, good_file, line_at, checked, line_applied, after, answer_at}
 use Rattle.rules.specs.History.{Item, row, item_of, history_to}
@@ -35,8 +35,8 @@ use Rattle.rules.proofs.ClashLaws.{covers_over}
 use Rattle.rules.proofs.Passing.{held_is, open_is, only_passed}
 use Rattle.rules.proofs.TakeLaws.{accepted, accepted_took, row_accepted_took, line_not, refused_stores, refused_history, good_stores, good_history}
 use Rattle.rules.proofs.GoodLaws.{good_file_lem, line_long}
-use Rattle.rules.proofs.KeepStores.{used_live, live_held, live_open, AllUnder, same_length, keep_one, keep_under, row_same_length, same_guide_length, renewed, keep_row, keep_under_row, keep_one_row}
-use Rattle.rules.proofs.KeepHistory.{state_left, AllTold, AllState, AllKept, Lawful, keep_told, keep_state, keep_kept, keep_lawful, keep_counted, told_row, state_row, kept_row, lawful_row, counted_row}
+use Rattle.rules.proofs.KeepStores.{used_live, live_held, live_open, AllUnder, same_length, keep_one, keep_under, same_guide_length, keep_row, keep_under_row}
+use Rattle.rules.proofs.KeepHistory.{state_left, filled_with, AllTold, AllState, AllKept, Lawful, keep_told, keep_state, keep_kept, keep_lawful, keep_counted, told_row, state_row, kept_row, lawful_row, counted_row}
 
 -- ---- what is kept
 
@@ -85,22 +85,18 @@ keep_line (Data v) h l s past x e p =
 keep_line Guide h g s past w e p =
     let R = s.register in
     let G = s.guide in
-    let S = (row_applied R G h g).register in
     let K = (row_applied R G h g).guide in
-    let c = row_code_of g in
     let t = row_accepted_took R G h g e in
-    let l = row_same_length R G g c S K w t in
-    let new = renewed R G g c S K w t in
     record {
-      sized = record { register = l ∙ p.sized.register; guide = same_guide_length R G g c S K w t ∙ p.sized.guide };
-      one_slot = keep_one_row R g S w l new p.one_slot;
-      one_row = keep_row R G g c S K w t p.one_row;
-      all_under = keep_under_row R G g c S K w t p.all_under;
-      all_told = told_row R g S w l new past p.all_told;
-      all_state = state_row R g S w l new past p.all_state;
-      all_kept = kept_row R g S w l new past p.all_kept;
-      lawful = lawful_row R g S w l new past p.lawful;
-      counted = counted_row R g S w l new past p.counted;
+      sized = record { register = p.sized.register; guide = same_guide_length R G g (row_code_of g) K w t ∙ p.sized.guide };
+      one_slot = p.one_slot;
+      one_row = keep_row R G g (row_code_of g) K w t p.one_row;
+      all_under = keep_under_row R G g (row_code_of g) K w t p.all_under;
+      all_told = told_row R g past p.all_told;
+      all_state = state_row R g past p.all_state;
+      all_kept = kept_row R g past p.all_kept;
+      lawful = lawful_row R g past p.lawful;
+      counted = counted_row R g past p.counted;
     }
 
 -- by the first i lines of a file of good length
@@ -225,12 +221,12 @@ module _ {n m : ℕ} (o : Office) (p : Kept n m o) where
             );
       }
 
-  -- each entry is the last I, C or M, with the ESN of its row
+  -- each entry is the last I, C or M
   all_last : AllLast o
-  unfolding AllTold AllLast
+  unfolding AllTold AllLast shown
   all_last i u k l =
       let t = p.all_told i (u.0, used_live (state_of (slot_at R i)) u.1) in
-      record { given = t.given; last = t.last; same = t.same ∙ ap (λ e. with_esn e t.given) l.shows }
+      record { given = t.given; last = t.last; same = t.same ∙ ap (filled_with t.given) l.shows }
 
   -- a number is in a state exactly if the history says so
   exactly : (q : ℕ → Bool) (c : Code → Bool) → ((b : ℕ) → q b ≡ true → is_live b ≡ true)

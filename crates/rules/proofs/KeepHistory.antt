@@ -7,27 +7,25 @@ use mathlib.Core.Option.{Option, none, some}
 use mathlib.Core.List.{List, [], ◌∷◌}
 use Prim.Native.Nat.{ℕ, ◌+◌}
 use native.Mathlib.Omega.{arith}
-use lib.ListN.{length}
 use Rattle.text.specs.Text.{same_bytes}
 use Rattle.text.proofs.Laws.{same_true, same_refl}
 use Rattle.calendar.specs.declared.Day.{Day}
 use Rattle.layout.specs.declared.frame.Header.{Header}
-use Rattle.layout.specs.Fields.{number_of, company_of, esn_of, row_esn_of, with_esn}
+use Rattle.layout.specs.Fields.{number_of, company_of, esn_of, has_esn, row_esn_of, with_esn}
 use Rattle.rules.specs.declared.Code.{Code}
 use Rattle.rules.specs.declared.Code.TheVariants.{Insert, Change, Delete, Unlock, Migrate}
 use Rattle.rules.specs.declared.Filed.{Filed}
 use Rattle.rules.specs.declared.Filed.TheVariants.{Record, NoRecord}
 use Rattle.rules.specs.Walks.{count}
-use Rattle.rules.specs.Slots.{slots, slot_at, state_of, record_of, is_used, is_live, rezoned, row_slot_at, row_of}
+use Rattle.rules.specs.Slots.{slots, slot_at, state_of, record_of, is_used, is_live, row_slot_at, row_of}
 use Rattle.rules.specs.Records.{filed_of, is_insert, is_own, stores, state_after, shown}
 use Rattle.rules.specs.History.{Item, entry, row}
 use Rattle.rules.specs.Demands.{used_at, OneSlot, is_delete, code_is, newest, last_of, last_stored, tally, InState, Counted}
-use Rattle.rules.proofs.WalkLaws.{clash-bool, count_same, count_change}
-use Rattle.rules.proofs.SlotLaws.{Whole, WholeRow, length_slot_at, whole_at, whole_row_at}
-use Rattle.rules.proofs.EsnLaws.{esn_five, with_length, with_twice, esn_with, number_with, company_with, shown_with, esn_shown, number_shown, company_shown}
-use Rattle.rules.proofs.ZoneLaws.{record_rezoned}
+use Rattle.rules.proofs.WalkLaws.{clash-bool, count_change}
+use Rattle.rules.proofs.SlotLaws.{Whole, whole_row_at}
+use Rattle.rules.proofs.EsnLaws.{esn_shown, number_shown, company_shown}
 use Rattle.rules.proofs.View.{allowed, Place, own, new, Content, stored, kept, Took}
-use Rattle.rules.proofs.KeepStores.{used_after, live_held, live_open, After, at_it, elsewhere, takes, content_ok, same_slots, after, used_before, other, row_five, Renewed, stays, zoned, renewed_state, renewed_number, renewed_used}
+use Rattle.rules.proofs.KeepStores.{used_after, live_held, live_open, After, at_it, elsewhere, takes, content_ok, same_slots, after, used_before, other}
 
 -- ---- codes and states
 
@@ -101,11 +99,20 @@ module _ (n r : List ℕ) (h : List Item) where
 
 -- ---- what every step keeps
 
--- a used slot holds the last that was stored for its number, with the ESN that it shows
+-- a record with another ESN, if its own is blank; `shown` is this with the row's
+abbrev pub filled_with : List ℕ → List ℕ → List ℕ
+filled_with given e = cond (has_esn given) given (with_esn e given)
+
+-- what an entry shows is the record with the ESN that it shows
+filled_esn : (r g : List ℕ) → esn_of (shown r g) ≡ row_esn_of g → shown r g ≡ filled_with r (esn_of (shown r g))
+unfolding shown
+filled_esn r g z = ap (filled_with r) (sym z)
+
+-- a used slot holds the last that was stored for its number
 pub record Told (h : List Item) (r : List ℕ) : Type 0 where
   pub given : List ℕ
   pub last : last_stored (number_of r) h ≡ some given
-  pub same : r ≡ with_esn (esn_of r) given
+  pub same : r ≡ filled_with given (esn_of r)
   pub holder : company_of given ≡ company_of r
 
 -- so it is for every used slot
@@ -178,7 +185,7 @@ module _ (R G : List ℕ) (h : Header) (r : List ℕ) (c : Code) (d : Day) (S : 
           rw (x, q) (record {
             given = r;
             last = stored_same (number_of (shown r g)) r past (sym (number_shown g r f k)) (code_is_lem r c d filed stores ∙ s);
-            same = shown_with g r f k e ∙ ap (λ x. with_esn x r) (sym (esn_shown g r f k e));
+            same = filled_esn r g (esn_shown g r f k e);
             holder = sym (company_shown g r f k);
           })
       go (at_it a b x) (own v n y w l) (kept s q) =
@@ -285,55 +292,25 @@ module _ (R G : List ℕ) (h : Header) (r : List ℕ) (c : Code) (d : Day) (S : 
           rw (same_slots R G h r c d S k t, code_is_lem r c d filed is_delete, code_is_lem r c d filed is_insert)
           (omega (arith, balance c (state_of (slot_at R t.index)) (takes R G h r c d S k t)))
 
--- ---- a guide row g was accepted: it says nothing of any number, and S has the slots of R, each as it was or with the ESN of g
+-- ---- a guide row was accepted: it says nothing of any number
 
-module _ (R g S : List ℕ) (w : WholeRow g) (l : length S ≡ length R) (new : (j : ℕ) → Renewed R g S j) (past : List Item) where
-  -- what each slot holds is the last stored, with the ESN that it shows
-  pub told_row : AllTold R past → AllTold S (row g ∷ past)
+module _ (R g : List ℕ) (past : List Item) where
+  -- what each slot holds is the last stored
+  pub told_row : AllTold R past → AllTold R (row g ∷ past)
   unfolding AllTold last_stored newest
-  told_row all j u = go (new j)
-    where
-      go : Renewed R g S j → Told (row g ∷ past) (record_of (slot_at S j))
-      go (stays y) =
-          let o = all j (renewed_used R g S w l new j u) in
-          rw y (record { given = o.given; last = o.last; same = o.same; holder = o.holder })
-      go (zoned v y) =
-          let o = all j v in
-          let r = record_of (slot_at R j) in
-          let k = whole_at R j v.0 in
-          let e : record_of (rezoned (row_esn_of g) (slot_at R j)) ≡ with_esn (row_esn_of g) r =
-          record_rezoned (row_esn_of g) (slot_at R j) (row_five g w) (length_slot_at R j v.0) in
-          rw (y, e) (record {
-            given = o.given;
-            last = ap (λ n. last_stored n past) (number_with g r w k) ∙ o.last;
-            same = rw (esn_with g r w k) (with_told r k o.given o.same);
-            holder = o.holder ∙ sym (company_with g r w k);
-          })
-        where
-          -- what was given with another ESN first, and then with the row's, is what was given with the row's
-          with_told : (r : List ℕ) → Whole r → (given : List ℕ) → r ≡ with_esn (esn_of r) given
-              → with_esn (row_esn_of g) r ≡ with_esn (row_esn_of g) given
-          with_told r k given e =
-              let l : Whole given = sym (with_length (esn_of r) given) ∙ sym (ap length e) ∙ k in
-              ap (with_esn (row_esn_of g)) e ∙ with_twice (row_esn_of g) (esn_of r) given (row_five g w) (esn_five r k) l
+  told_row all i u =
+      let o = all i u in
+      record { given = o.given; last = o.last; same = o.same; holder = o.holder }
 
   -- its state is that which the last record left
-  pub state_row : AllState R past → AllState S (row g ∷ past)
+  pub state_row : AllState R past → AllState R (row g ∷ past)
   unfolding AllState last_of newest
-  state_row all j u =
-      rw (renewed_number R g S w j (new j), renewed_state R g S w j (new j)) (all j (renewed_used R g S w l new j u))
+  state_row all = all
 
   -- a number held or open has a slot
-  pub kept_row : AllKept R past → AllKept S (row g ∷ past)
+  pub kept_row : AllKept R past → AllKept R (row g ∷ past)
   unfolding AllKept last_of newest
-  kept_row all n u =
-      let o = all n u in
-      record {
-        slot = o.slot;
-        within = rw l o.within;
-        state = rw (renewed_state R g S w o.slot (new o.slot)) o.state;
-        named = renewed_number R g S w o.slot (new o.slot) ∙ o.named;
-      }
+  kept_row all = all
 
   -- each record was allowed
   pub lawful_row : Lawful past → Lawful (row g ∷ past)
@@ -341,9 +318,6 @@ module _ (R g S : List ℕ) (w : WholeRow g) (l : length S ≡ length R) (new : 
   lawful_row law = law
 
   -- held plus open
-  pub counted_row : Counted R past → Counted S (row g ∷ past)
+  pub counted_row : Counted R past → Counted R (row g ∷ past)
   unfolding Counted tally
-  counted_row c =
-      let z = count_same (λ i. is_live (state_of (slot_at R i))) (λ i. is_live (state_of (slot_at S i))) (slots R)
-      (λ j h. rw (renewed_state R g S w j (new j)) refl) in
-      rw (l, z) c
+  counted_row c = c

@@ -21,7 +21,7 @@ use Rattle.calendar.proofs.DateLaws.{date_fits}
 use Rattle.layout.specs.declared.frame.Header.{Header}
 use Rattle.layout.specs.Counters.{given_cycle}
 use Rattle.layout.specs.Tables.{data_record, guide_row, field, date}
-use Rattle.layout.specs.Fields.{function_of, has_esn, date_of, date_by, row_esn_of, row_function_of}
+use Rattle.layout.specs.Fields.{function_of, date_of, date_by, row_function_of}
 use Rattle.layout.specs.Rules.{record_fault, row_fault}
 use Rattle.rules.proofs.WideLaws.{wide_whole, wide_good}
 use Rattle.rules.specs.declared.Kind.{Kind}
@@ -29,26 +29,25 @@ use Rattle.rules.specs.declared.Kind.TheVariants.{Data, Guide}
 use Rattle.rules.specs.declared.Code.{Code}
 use Rattle.rules.specs.declared.Code.TheVariants.{Insert, Change, Delete, Unlock, Migrate}
 use Rattle.rules.specs.declared.RowCode.{RowCode}
-use Rattle.rules.specs.declared.RowCode.TheVariants.{Insert as InsertRow, Delete as DeleteRow, Change as ChangeRow, NoCode}
+use Rattle.rules.specs.declared.RowCode.TheVariants.{Insert as InsertRow, Delete as DeleteRow, NoCode}
 use Rattle.rules.specs.declared.Filed.TheVariants.{Record, NoRecord}
 use Rattle.rules.specs.declared.Found.TheVariants.{Nothing}
 use Rattle.rules.specs.declared.Checked.{Checked}
 use Rattle.rules.specs.declared.Checked.TheVariants.{Good, Refused}
 use Rattle.rules.specs.Walks.{find, is_nothing}
-use Rattle.rules.specs.Slots.{place, good_length, slots, slot_at, state_of, slot_day, record_of, slot_of, rezoned, is_free, is_held, is_used, is_zero, is_entry_code, fits_slot, day_fits, used_sound, slot_sound, slot_sound_by, unsound_slot, register_sound, unsound_by, register_sound_by, row_slots, row_slot_at, with_row_slot, is_present, is_vacant, row_of, row_slot_of, free_row_slot, row_rezoned, present_sound, row_slot_sound, unsound_row_slot, guide_sound}
+use Rattle.rules.specs.Slots.{place, good_length, slots, slot_at, state_of, slot_day, record_of, slot_of, is_free, is_held, is_used, is_zero, is_entry_code, fits_slot, day_fits, used_sound, slot_sound, slot_sound_by, unsound_slot, register_sound, unsound_by, register_sound_by, row_slots, row_slot_at, with_row_slot, is_present, is_vacant, row_of, row_slot_of, free_row_slot, present_sound, row_slot_sound, unsound_row_slot, guide_sound}
 use Rattle.rules.specs.Records.{coded_of, filed_of, stores, state_after, shown, applied}
 use Rattle.rules.specs.Rows.{row_code_of, row_applied}
 use Rattle.rules.specs.Takes.{Stores, shape_of, line_fault, lines_in, line_at, checked, refused_file, line_applied, after, answer_at, applied_file, taken}
 use Rattle.rules.specs.Demands.{File, Office, start, taking, run, present_at, SoundStores, NoneUnsound}
 use Rattle.rules.proofs.WalkLaws.{clash-bool, not_false, not_true, find_none, find_nowhere, is_nothing_lem}
-use Rattle.rules.proofs.SlotLaws.{Whole, WholeRow, state_slot, day_slot, record_length, record_slot, length_slot_at, present_row, row_slot, length_row_slot, length_free, row_length, length_row_slot_at, whole_row_at, zero_zeros, zero_row_sound, empty_sound, empty_guide_sound}
-use Rattle.rules.proofs.EsnLaws.{date_with, function_with, date_shown, function_shown}
-use Rattle.rules.proofs.ZoneLaws.{state_rezoned, day_rezoned, zeros_rezoned, record_rezoned, length_row_rezoned, present_rezoned, vacant_rezoned, row_zeros_rezoned, row_rezoned_lem, row_function_with}
-use Rattle.rules.proofs.View.{Place, own, new, Content, stored, kept, Took, RowTook, added, removed, changed, late}
+use Rattle.rules.proofs.SlotLaws.{Whole, WholeRow, state_slot, day_slot, record_slot, present_row, row_slot, length_row_slot, length_free, whole_row_at, zero_zeros, zero_row_sound, empty_sound, empty_guide_sound}
+use Rattle.rules.proofs.EsnLaws.{date_shown, function_shown}
+use Rattle.rules.proofs.View.{Place, own, new, Content, stored, kept, Took, RowTook, added, removed, late}
 use Rattle.rules.proofs.TakeLaws.{accepted, accepted_took, row_accepted_took, line_not, refused_stores, good_stores, refused_is, good_is}
 use Rattle.rules.proofs.GoodLaws.{GoodFile, checked_by, good_file_lem, line_long}
-use Rattle.rules.proofs.KeepStores.{used_after, content_ok, same_length, same_slots, slot_it, slot_else, RowAfter, row_it, row_else, row_after, put_length, put_slots, row_five, Renewed, stays, zoned, row_same_length, renewed}
-use Rattle.rules.proofs.SoundLaws.{fault_with, has_with, fault_shown, esn_filled, row_fault_with}
+use Rattle.rules.proofs.KeepStores.{used_after, content_ok, same_length, same_slots, slot_it, slot_else, RowAfter, row_it, row_else, row_after, put_length, put_slots}
+use Rattle.rules.proofs.SoundLaws.{fault_shown, esn_filled}
 
 -- ---- a store is sound exactly if its length is good and each slot is sound
 
@@ -196,22 +195,6 @@ used_by x s e u =
     let h = and_right b (c && d) g in
     record { zeros = and_left b (c && d) g; fits = and_left c d h; dated = and_right c d h }
 
--- what a record that fits a slot has in it
-record FitsSlot (r : List ℕ) : Type 0 where
-  good : record_fault data_record r ≡ 0
-  coded : is_entry_code (function_of r) ≡ true
-
-fits_slot_lem : (r : List ℕ) → fits_slot r ≡ true → FitsSlot r
-unfolding fits_slot
-fits_slot_lem r e =
-    let a = eqb (record_fault data_record r) 0 in
-    let b = is_entry_code (function_of r) in
-    let c = has_esn r in
-    record {
-      good = eqb-true (record_fault data_record r) 0 (and_left a (b && c) e);
-      coded = and_left b c (and_right a (b && c) e);
-    }
-
 -- and as dates are read now
 abbrev pub Used : List ℕ → Type 0
 Used s = UsedBy Present s
@@ -266,31 +249,19 @@ present_not_vacant : (s : List ℕ) → is_present s ≡ true → is_vacant s �
 unfolding is_present is_vacant
 present_not_vacant s p = rw (eqb-true (get_or s 0 0) 1 p) refl
 
--- what a present row's slot that is sound has in it
-record PresentRow (s : List ℕ) : Type 0 where
-  zeros : is_zero (part 1 7 s) ≡ true
-  good : row_fault guide_row (row_of s) ≡ 0
-  coded : eqb (row_function_of (row_of s)) 73 ≡ true
-
-row_present : (s : List ℕ) → is_present s ≡ true → row_slot_sound s ≡ true → PresentRow s
-unfolding row_slot_sound present_sound
-row_present s p e =
-    let a = is_present s in
-    let b = is_zero (part 1 7 s) in
-    let c = eqb (row_fault guide_row (row_of s)) 0 in
-    let d = eqb (row_function_of (row_of s)) 73 in
-    let f : a && (b && (c && d)) ≡ true = rw (present_not_vacant s p) at e in
-    let g = and_right a (b && (c && d)) f in
-    let h = and_right b (c && d) g in
-    record {
-      zeros = and_left b (c && d) g;
-      good = eqb-true (row_fault guide_row (row_of s)) 0 (and_left c d h);
-      coded = and_right c d h;
-    }
-
 -- it is of good form
 row_good : (G : List ℕ) (k : ℕ) → RowsSound G → present_at G k → row_fault guide_row (row_of (row_slot_at G k)) ≡ 0
-row_good G k gs u = (row_present (row_slot_at G k) u.1 (gs.each k u.0)).good
+unfolding row_slot_sound present_sound
+row_good G k gs u = go (row_slot_at G k) (gs.each k u.0) u.1
+  where
+    go : (s : List ℕ) → row_slot_sound s ≡ true → is_present s ≡ true → row_fault guide_row (row_of s) ≡ 0
+    go s e p =
+        let a = is_present s in
+        let b = is_zero (part 1 7 s) in
+        let c = eqb (row_fault guide_row (row_of s)) 0 in
+        let d = eqb (row_function_of (row_of s)) 73 in
+        let f : a && (b && (c && d)) ≡ true = rw (present_not_vacant s p) at e in
+        eqb-true (row_fault guide_row (row_of s)) 0 (and_left c d (and_right b (c && d) (and_right a (b && (c && d)) f)))
 
 -- ---- the register after a record that was accepted
 
@@ -343,14 +314,13 @@ module _ (R G : List ℕ) (h : Header) (r : List ℕ) (c : Code) (d : Day) (S : 
 -- the byte of code I
 row_coded : (g : List ℕ) → row_code_of g ≡ InsertRow → eqb (row_function_of g) 73 ≡ true
 unfolding row_code_of
-row_coded g e = go (eqb (length g) 200) (eqb (row_function_of g) 73) (eqb (row_function_of g) 68) (eqb (row_function_of g) 67) e
+row_coded g e = go (eqb (length g) 200) (eqb (row_function_of g) 73) (eqb (row_function_of g) 68) e
   where
-    go : (l a b c : Bool) → cond l (cond a InsertRow (cond b DeleteRow (cond c ChangeRow NoCode))) NoCode ≡ InsertRow → a ≡ true
-    go true true b c e = refl
-    go true false true c e = let z : ◌≡◌ {A = ℕ} 0 1 = cc in absurd (omega arith)
-    go true false false true e = let z : ◌≡◌ {A = ℕ} 0 1 = cc in absurd (omega arith)
-    go true false false false e = let z : ◌≡◌ {A = ℕ} 0 1 = cc in absurd (omega arith)
-    go false a b c e = let z : ◌≡◌ {A = ℕ} 0 1 = cc in absurd (omega arith)
+    go : (l a b : Bool) → cond l (cond a InsertRow (cond b DeleteRow NoCode)) NoCode ≡ InsertRow → a ≡ true
+    go true true b e = refl
+    go true false true e = let z : ◌≡◌ {A = ℕ} 0 1 = cc in absurd (omega arith)
+    go true false false e = let z : ◌≡◌ {A = ℕ} 0 1 = cc in absurd (omega arith)
+    go false a b e = let z : ◌≡◌ {A = ℕ} 0 1 = cc in absurd (omega arith)
 
 -- bytes 1 to 7 are zero
 zeros_row : (g : List ℕ) → is_zero (part 1 7 (row_slot_of g)) ≡ true
@@ -364,29 +334,7 @@ unfolding row_slot_sound present_sound
 row_slot_sound_lem g w e c =
     rw (present_not_vacant (row_slot_of g) (present_row g), present_row g, zeros_row g, row_slot g w, e, row_coded g c) refl
 
--- a slot whose row has another one's ESN
-row_rezoned_sound : (g s : List ℕ) → WholeRow g → row_fault guide_row g ≡ 0 → length s ≡ 208 → is_present s ≡ true → row_slot_sound s ≡ true
-    → row_slot_sound (row_rezoned (row_esn_of g) s) ≡ true
-unfolding row_slot_sound present_sound
-row_rezoned_sound g s w good k u e =
-    let p = row_five g w in
-    let o = row_present s u e in
-    let l : WholeRow (row_of s) = row_length s k in
-    rw (
-      vacant_rezoned (row_esn_of g) s p k,
-      present_not_vacant s u,
-      present_rezoned (row_esn_of g) s p k,
-      u,
-      row_zeros_rezoned (row_esn_of g) s p k,
-      o.zeros,
-      row_rezoned_lem (row_esn_of g) s p k,
-      row_fault_with g (row_of s) p l good o.good,
-      row_function_with (row_esn_of g) (row_of s) p l,
-      o.coded,
-    ) refl
-
-module _ (R G g : List ℕ) (c : RowCode) (S K : List ℕ) (w : WholeRow g) (coded : row_code_of g ≡ c) (good : row_fault guide_row g ≡ 0)
-    (gs : RowsSound G) where
+module _ (R G g : List ℕ) (c : RowCode) (K : List ℕ) (w : WholeRow g) (coded : row_code_of g ≡ c) (good : row_fault guide_row g ≡ 0) (gs : RowsSound G) where
   -- what is put into a slot is sound
   put_sound : (s : List ℕ) (k : ℕ) → k < row_slots G → length s ≡ 208 → K ≡ with_row_slot G k s → row_slot_sound s ≡ true
       → RowsSound K
@@ -406,52 +354,11 @@ module _ (R G g : List ℕ) (c : RowCode) (S K : List ℕ) (w : WholeRow g) (cod
   free_zero = zero_zeros 208
 
   -- each slot of the guide is sound
-  keep_rows : RowTook R G g c S K → RowsSound K
-  keep_rows (added i k l v p x e) =
+  keep_rows : RowTook R G g c K → RowsSound K
+  keep_rows (added i k l v p e) =
       put_sound (row_slot_of g) k l (length_row_slot g w) e (row_slot_sound_lem g w good (coded ∙ i))
-  keep_rows (removed i k l v p x e) =
+  keep_rows (removed i k l v p e) =
       put_sound free_row_slot k l.0 length_free e (zero_row_sound free_row_slot free_zero)
-  keep_rows (changed i k l v x e) =
-      let o = row_slot_at G k in
-      let m = length_row_slot_at G k l.0 in
-      put_sound (row_rezoned (row_esn_of g) o) k l.0 (length_row_rezoned (row_esn_of g) o (row_five g w) m) e
-      (row_rezoned_sound g o w good m l.1 (gs.each k l.0))
-
--- ---- the register after it: each slot is as it was, or has the row's ESN
-
--- a used slot that has it
-rezoned_sound : (g s : List ℕ) → WholeRow g → row_fault guide_row g ≡ 0 → length s ≡ 520 → is_used (state_of s) ≡ true → slot_sound s ≡ true
-    → slot_sound (rezoned (row_esn_of g) s) ≡ true
-unfolding slot_sound used_sound fits_slot
-rezoned_sound g s w good k u e =
-    let p = row_five g w in
-    let r = record_of s in
-    let l : Whole r = record_length s k in
-    let o = used_sound_lem s e u in
-    let f = fits_slot_lem r o.fits in
-    rw (
-      state_rezoned (row_esn_of g) s p k,
-      not_free (state_of s) u,
-      u,
-      zeros_rezoned (row_esn_of g) s p k,
-      o.zeros,
-      record_rezoned (row_esn_of g) s p k,
-      fault_with g r w l good f.good,
-      function_with g r w l,
-      f.coded,
-      has_with g r w l good,
-      date_with g r w l,
-      day_rezoned (row_esn_of g) s p k,
-    ) o.dated
-
-zoned_sound : (R g S : List ℕ) → WholeRow g → row_fault guide_row g ≡ 0 → length S ≡ length R → ((j : ℕ) → Renewed R g S j)
-    → SlotsSound R → SlotsSound S
-zoned_sound R g S w good l each rs =
-    record { long = same_good 520 R S l rs.long; each = λ j h. go j (rw l at h) (each j) }
-  where
-    go : (j : ℕ) → j < slots R → Renewed R g S j → slot_sound (slot_at S j) ≡ true
-    go j h (stays y) = rw y (rs.each j h)
-    go j h (zoned u y) = rw y (rezoned_sound g (slot_at R j) w good (length_slot_at R j h) u.1 (rs.each j h))
 
 -- ---- over a line, a file, a run
 
@@ -475,14 +382,10 @@ sound_line (Data v) h l s x y e p =
 sound_line Guide h g s w v e p =
     let R = s.register in
     let G = s.guide in
-    let S = (row_applied R G h g).register in
-    let K = (row_applied R G h g).guide in
-    let c = row_code_of g in
-    let t = row_accepted_took R G h g e in
     record {
-      register = register_sound_lem S
-          (zoned_sound R g S w v (row_same_length R G g c S K w t) (renewed R G g c S K w t) (slots_sound R p.register));
-      guide = guide_sound_lem K (keep_rows R G g c S K w refl v (rows_sound G p.guide) t);
+      register = p.register;
+      guide = guide_sound_lem (row_applied R G h g).guide
+          (keep_rows R G g (row_code_of g) (row_applied R G h g).guide w refl v (rows_sound G p.guide) (row_accepted_took R G h g e));
     }
 
 -- the first i lines of a file that passes the checks

@@ -6,7 +6,6 @@ use mathlib.Core.Bool.{Bool, true, false, ◌||◌}
 use mathlib.Core.List.{List}
 use Prim.Native.Nat.{ℕ, ◌<◌}
 use native.Mathlib.Decide.{ℕ_discrete}
-use native.Mathlib.Omega.{arith}
 use lib.ListN.{length}
 use lib.Dec.{eqb}
 use borrow.Author.Tests.{eqb-true}
@@ -14,22 +13,19 @@ use Rattle.text.specs.Text.{same_bytes}
 use Rattle.text.proofs.Laws.{same_true}
 use Rattle.calendar.specs.declared.Day.{Day}
 use Rattle.layout.specs.declared.frame.Header.{Header}
-use Rattle.layout.specs.Fields.{number_of, esn_of, row_esn_of, with_esn}
+use Rattle.layout.specs.Fields.{number_of, esn_of, row_esn_of}
 use Rattle.rules.specs.declared.Code.{Code}
 use Rattle.rules.specs.declared.Code.TheVariants.{Insert, Change, Delete, Unlock, Migrate}
 use Rattle.rules.specs.declared.RowCode.{RowCode}
-use Rattle.rules.specs.Slots.{slots, slot_at, state_of, record_of, slot_of, rezoned, is_held, is_open, is_used, is_live, row_slots, row_slot_at, with_row_slot, is_present, row_of, row_slot_of, free_row_slot, row_rezoned}
+use Rattle.rules.specs.Slots.{slots, slot_at, state_of, record_of, slot_of, is_held, is_open, is_used, is_live, row_slots, row_slot_at, with_row_slot, is_present, row_of, row_slot_of, free_row_slot}
 use Rattle.rules.specs.Covers.{over, covers}
 use Rattle.rules.specs.Records.{stores, state_after}
-use Rattle.rules.specs.Rows.{rezoned_to}
 use Rattle.rules.specs.Demands.{used_at, live_at, present_at, OneSlot, OneRow}
 use Rattle.rules.proofs.WalkLaws.{clash-bool}
-use Rattle.rules.proofs.PlaceLaws.{part_length}
-use Rattle.rules.proofs.SlotLaws.{Whole, WholeRow, state_slot, record_slot, length_slot, length_slot_at, whole_at, slot_same, slot_other, length_with, slots_with, row_slot, length_row_slot, free_absent, length_free, vacant_absent, length_row_slot_at, whole_row_at, row_slot_same, row_slot_other, length_with_row, row_slots_with}
-use Rattle.rules.proofs.EsnLaws.{esn_with, number_with, covers_with, whole_shown, esn_shown, number_shown, covers_shown}
-use Rattle.rules.proofs.ZoneLaws.{to_length, ZonedAt, is_under_lem, is_apart, zoned_at, row_esn_at, row_esn_size, row_with, state_rezoned, record_rezoned, length_row_rezoned, present_rezoned, row_rezoned_lem, row_esn_with, over_row_with, covers_row_with}
+use Rattle.rules.proofs.SlotLaws.{Whole, WholeRow, state_slot, record_slot, length_slot, whole_at, slot_same, slot_other, length_with, slots_with, row_slot, length_row_slot, free_absent, length_free, vacant_absent, whole_row_at, row_slot_same, row_slot_other, length_with_row, row_slots_with}
+use Rattle.rules.proofs.EsnLaws.{whole_shown, esn_shown, number_shown, covers_shown}
 use Rattle.rules.proofs.ClashLaws.{clash_no}
-use Rattle.rules.proofs.View.{allowed, Place, own, new, Content, stored, kept, Took, RowTook, added, removed, changed}
+use Rattle.rules.proofs.View.{allowed, Place, own, new, Content, stored, kept, Took, RowTook, added, removed}
 
 -- ---- codes and states
 
@@ -250,13 +246,15 @@ module _ (G K s : List ℕ) (k : ℕ) (f : k < row_slots G) (e : length s ≡ 20
       go (row_else p o) (row_it z w) = absurd (apart i (there_before i o u) (rw w at v.1) a b n (rw o at x) (rw w at y))
       go (row_else p o) (row_else z w) = one i j a b n (there_before i o u) (there_before j w v) (rw o at x) (rw w at y)
 
-  -- a record that lies under another row than what was at k stays under it
-  still_under : (r : List ℕ) (l : LiesUnder G r) → l.row ≢ k → LiesUnder K r
-  still_under r l n = go (row_after l.row)
+  -- no entry lies under what was at k: each stays under its row
+  put_under : (R : List ℕ) → ((i : ℕ) → live_at R i → (l : LiesUnder G (record_of (slot_at R i))) → l.row ≢ k)
+      → AllUnder R G → AllUnder R K
+  unfolding AllUnder
+  put_under R off all i u = go (all i u) (row_after (all i u).row)
     where
-      go : RowAfter G K s k l.row → LiesUnder K r
-      go (row_it x y) = absurd (n x)
-      go (row_else x y) =
+      go : (l : LiesUnder G (record_of (slot_at R i))) → RowAfter G K s k l.row → LiesUnder K (record_of (slot_at R i))
+      go l (row_it x y) = absurd (off i u l x)
+      go l (row_else x y) =
           record {
             row = l.row;
             there = (rw put_slots l.there.0, rw y l.there.1);
@@ -264,185 +262,26 @@ module _ (G K s : List ℕ) (k : ℕ) (f : k < row_slots G) (e : length s ≡ 20
             shows = rw y l.shows;
           }
 
-  -- no entry lies under what was at k: each stays under its row
-  put_under : (R : List ℕ) → ((i : ℕ) → live_at R i → (l : LiesUnder G (record_of (slot_at R i))) → l.row ≢ k)
-      → AllUnder R G → AllUnder R K
-  unfolding AllUnder
-  put_under R off all i u = still_under (record_of (slot_at R i)) (all i u) (off i u (all i u))
+-- ---- a guide row g with code c was accepted, and K is the guide after it
 
--- ---- a row's ESN has five bytes
-
-pub row_five : (g : List ℕ) → WholeRow g → length (row_esn_of g) ≡ 5
-unfolding row_esn_of
-row_five g w = part_length row_esn_at row_esn_size g (omega arith)
-
--- ---- the row in guide slot k has the ESN of the row g, and so has every used slot under it: K is G after that
-
-module _ (G K g : List ℕ) (k : ℕ) (w : WholeRow g) (u : present_at G k) (q : K ≡ with_row_slot G k (row_rezoned (row_esn_of g) (row_slot_at G k)))
-  where
-    five : length (row_esn_of g) ≡ 5
-    five = row_five g w
-
-    -- the slot with it
-    abbrev fresh : List ℕ
-    fresh = row_rezoned (row_esn_of g) (row_slot_at G k)
-
-    old_long : length (row_slot_at G k) ≡ 208
-    old_long = length_row_slot_at G k u.0
-
-    fresh_long : length fresh ≡ 208
-    fresh_long = length_row_rezoned (row_esn_of g) (row_slot_at G k) five old_long
-
-    zone_after : (j : ℕ) → RowAfter G K fresh k j
-    zone_after j = row_after G K fresh k u.0 fresh_long q j
-
-    -- each row stands where it stood,
-    zone_there : (j : ℕ) → is_present (row_slot_at K j) ≡ is_present (row_slot_at G j)
-    zone_there j = go (zone_after j)
-      where
-        go : RowAfter G K fresh k j → is_present (row_slot_at K j) ≡ is_present (row_slot_at G j)
-        go (row_it x y) = rw (y, x) (present_rezoned (row_esn_of g) (row_slot_at G k) five old_long)
-        go (row_else x y) = rw y
-
-    -- and reads as it did, but for its ESN
-    zone_read : {A : Type 0} (read : List ℕ → A) → ((o : List ℕ) → WholeRow o → read (row_with (row_esn_of g) o) ≡ read o)
-        → (j : ℕ) → read (row_of (row_slot_at K j)) ≡ read (row_of (row_slot_at G j))
-    zone_read read f j = go (zone_after j)
-      where
-        go : RowAfter G K fresh k j → read (row_of (row_slot_at K j)) ≡ read (row_of (row_slot_at G j))
-        go (row_it x y) =
-            rw (y, x)
-            (ap read (row_rezoned_lem (row_esn_of g) (row_slot_at G k) five old_long) ∙ f (row_of (row_slot_at G k)) (whole_row_at G k u.0))
-        go (row_else x y) = rw y
-
-    zone_before : (j : ℕ) → present_at K j → present_at G j
-    zone_before j v = (rw (put_slots G K fresh k u.0 fresh_long q) at v.0, sym (zone_there j) ∙ v.1)
-
-    -- so a house number has one row as before
-    zone_one : OneRow G → OneRow K
-    unfolding OneRow
-    zone_one one i j a b n v y x z = one i j a b n (zone_before i v) (zone_before j y) (before i x) (before j z)
-      where
-        before : (j : ℕ) → over (row_of (row_slot_at K j)) a b n ≡ true → over (row_of (row_slot_at G j)) a b n ≡ true
-        before j h = sym (zone_read (λ o. over o a b n) (λ o y. over_row_with (row_esn_of g) o five y a b n) j) ∙ h
-
-    -- the row's own slot is read back with the ESN
-    zone_esn : row_esn_of (row_of (row_slot_at K k)) ≡ row_esn_of g
-    zone_esn = go (zone_after k)
-      where
-        go : RowAfter G K fresh k k → row_esn_of (row_of (row_slot_at K k)) ≡ row_esn_of g
-        go (row_it x y) =
-            rw y
-            (ap row_esn_of (row_rezoned_lem (row_esn_of g) (row_slot_at G k) five old_long)
-            ∙ row_esn_with (row_esn_of g) (row_of (row_slot_at G k)) five (whole_row_at G k u.0))
-        go (row_else x y) = absurd (x refl)
-
-    -- an entry under the row shows its new ESN, and one under another row is as it was, under a row that is as it was
-    zone_under : (R : List ℕ) → AllUnder R G → AllUnder (rezoned_to (row_of (row_slot_at G k)) (row_esn_of g) R (slots R)) K
-    unfolding AllUnder
-    zone_under R all j v = go (zoned_at (row_of (row_slot_at G k)) (row_esn_of g) R j)
-      where
-        go : ZonedAt (row_of (row_slot_at G k)) (row_esn_of g) R (rezoned_to (row_of (row_slot_at G k)) (row_esn_of g) R (slots R)) j
-            → LiesUnder K (record_of (slot_at (rezoned_to (row_of (row_slot_at G k)) (row_esn_of g) R (slots R)) j))
-        go (is_under_lem x o y) =
-            let r = record_of (slot_at R j) in
-            let f = whole_at R j x.0 in
-            let e : record_of (rezoned (row_esn_of g) (slot_at R j)) ≡ with_esn (row_esn_of g) r =
-            record_rezoned (row_esn_of g) (slot_at R j) five (length_slot_at R j x.0) in
-            rw (y, e) (record {
-              row = k;
-              there = (rw (put_slots G K fresh k u.0 fresh_long q) u.0, zone_there k ∙ u.1);
-              under = covers_with g r w f (row_of (row_slot_at K k))
-                  ∙ zone_read (λ o. covers o r) (λ o z. covers_row_with (row_esn_of g) o five z r) k
-                  ∙ o;
-              shows = esn_with g r w f ∙ sym zone_esn;
-            })
-        go (is_apart f y) =
-            let b = state_of (slot_at R j) in
-            let h : is_live b ≡ true = rw y at v.1 in
-            let x : j < slots R = rw (to_length (row_of (row_slot_at G k)) (row_esn_of g) R (slots R) (omega arith)) at v.0 in
-            let l = all j (x, h) in
-            rw y (still_under G K fresh k u.0 fresh_long q (record_of (slot_at R j)) l
-            (λ z. clash-bool l.under (rw z (f (x, used_live b h)))))
-
--- ---- a guide row g with code c was accepted, and S and K are register and guide after it
-
--- slot j of the register: it is as it was, or it has the row's ESN
-pub data Renewed (R g S : List ℕ) (j : ℕ) : Type 0 where
-  stays : slot_at S j ≡ slot_at R j → Renewed R g S j
-  zoned : used_at R j → slot_at S j ≡ rezoned (row_esn_of g) (slot_at R j) → Renewed R g S j
-
-module _ (R G g : List ℕ) (c : RowCode) (S K : List ℕ) (w : WholeRow g) where
-  -- the register is as long
-  pub row_same_length : RowTook R G g c S K → length S ≡ length R
-  row_same_length (added i k l v p x e) = ap length x
-  row_same_length (removed i k l v p x e) = ap length x
-  row_same_length (changed i k l v x e) = ap length x ∙ to_length (row_of (row_slot_at G k)) (row_esn_of g) R (slots R) (omega arith)
-
+module _ (R G g : List ℕ) (c : RowCode) (K : List ℕ) (w : WholeRow g) where
   -- the guide is as long
-  pub same_guide_length : RowTook R G g c S K → length K ≡ length G
-  same_guide_length (added i k l v p x e) = put_length G K (row_slot_of g) k l (length_row_slot g w) e
-  same_guide_length (removed i k l v p x e) = put_length G K free_row_slot k l.0 length_free e
-  same_guide_length (changed i k l v x e) =
-      put_length G K (row_rezoned (row_esn_of g) (row_slot_at G k)) k l.0 (fresh_long G K g k w l e) e
-
-  -- each slot is as it was, or has the row's ESN
-  pub renewed : RowTook R G g c S K → (j : ℕ) → Renewed R g S j
-  renewed (added i k l v p x e) j = stays (rw x)
-  renewed (removed i k l v p x e) j = stays (rw x)
-  renewed (changed i k l v x e) j = go (zoned_at (row_of (row_slot_at G k)) (row_esn_of g) R j)
-    where
-      go : ZonedAt (row_of (row_slot_at G k)) (row_esn_of g) R (rezoned_to (row_of (row_slot_at G k)) (row_esn_of g) R (slots R)) j
-          → Renewed R g S j
-      go (is_under_lem u o y) = zoned u (rw x y)
-      go (is_apart f y) = stays (rw x y)
+  pub same_guide_length : RowTook R G g c K → length K ≡ length G
+  same_guide_length (added i k l v p e) = put_length G K (row_slot_of g) k l (length_row_slot g w) e
+  same_guide_length (removed i k l v p e) = put_length G K free_row_slot k l.0 length_free e
 
   -- one row for a house number on a street
-  pub keep_row : RowTook R G g c S K → OneRow G → OneRow K
-  keep_row (added i k l v p x e) one =
+  pub keep_row : RowTook R G g c K → OneRow G → OneRow K
+  keep_row (added i k l v p e) one =
       put_one G K (row_slot_of g) k l (length_row_slot g w) e
       (λ j u z a b n x y. clash_no (row_of (row_slot_at G j)) g (p j u) a b n x (rw (row_slot g w) at y)) one
-  keep_row (removed i k l v p x e) one =
+  keep_row (removed i k l v p e) one =
       put_one G K free_row_slot k l.0 length_free e (λ j u z a b n x y. clash-bool z free_absent) one
-  keep_row (changed i k l v x e) one = zone_one G K g k w l e one
 
   -- each entry under a row
-  pub keep_under_row : RowTook R G g c S K → AllUnder R G → AllUnder S K
-  keep_under_row (added i k l v p x e) all =
-      rw x (put_under G K (row_slot_of g) k l (length_row_slot g w) e R
-      (λ i u o q. clash-bool o.there.1 (rw q (vacant_absent (row_slot_at G k) v))) all)
-  keep_under_row (removed i k l v p x e) all =
-      rw x (put_under G K free_row_slot k l.0 length_free e R (λ i u o q. clash-bool o.under (rw q (p i u))) all)
-  keep_under_row (changed i k l v x e) all = rw x (zone_under G K g k w l e R all)
-
--- ---- what a slot of the register reads as then: S has the slots of R, each as it was or with the ESN of the row g
-
-module _ (R g S : List ℕ) (w : WholeRow g) where
-  -- its state
-  pub renewed_state : (j : ℕ) → Renewed R g S j → state_of (slot_at S j) ≡ state_of (slot_at R j)
-  renewed_state j (stays y) = rw y
-  renewed_state j (zoned u y) = rw y (state_rezoned (row_esn_of g) (slot_at R j) (row_five g w) (length_slot_at R j u.0))
-
-  -- whatever the ESN leaves, of its record
-  pub renewed_read : {A : Type 0} (read : List ℕ → A) → ((r : List ℕ) → Whole r → read (with_esn (row_esn_of g) r) ≡ read r)
-      → (j : ℕ) → Renewed R g S j → read (record_of (slot_at S j)) ≡ read (record_of (slot_at R j))
-  renewed_read read f j (stays y) = rw y
-  renewed_read read f j (zoned u y) =
-      rw y
-      (ap read (record_rezoned (row_esn_of g) (slot_at R j) (row_five g w) (length_slot_at R j u.0))
-      ∙ f (record_of (slot_at R j)) (whole_at R j u.0))
-
-  -- its number
-  pub renewed_number : (j : ℕ) → Renewed R g S j → number_of (record_of (slot_at S j)) ≡ number_of (record_of (slot_at R j))
-  renewed_number j n = renewed_read number_of (λ r k. number_with g r w k) j n
-
-  module _ (l : length S ≡ length R) (new : (j : ℕ) → Renewed R g S j) where
-    -- a used slot was used before
-    pub renewed_used : (j : ℕ) → used_at S j → used_at R j
-    renewed_used j u = (rw l at u.0, rw (renewed_state j (new j)) at u.1)
-
-    -- one slot for a number
-    pub keep_one_row : OneSlot R → OneSlot S
-    unfolding OneSlot
-    keep_one_row one i j u v e =
-        one i j (renewed_used i u) (renewed_used j v) (sym (renewed_number i (new i)) ∙ e ∙ renewed_number j (new j))
+  pub keep_under_row : RowTook R G g c K → AllUnder R G → AllUnder R K
+  keep_under_row (added i k l v p e) all =
+      put_under G K (row_slot_of g) k l (length_row_slot g w) e R
+      (λ i u o q. clash-bool o.there.1 (rw q (vacant_absent (row_slot_at G k) v))) all
+  keep_under_row (removed i k l v p e) all =
+      put_under G K free_row_slot k l.0 length_free e R (λ i u o q. clash-bool o.under (rw q (p i u))) all

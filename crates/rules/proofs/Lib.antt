@@ -2,8 +2,6 @@ pub mod WalkLaws
 pub mod PlaceLaws
 pub mod SlotLaws
 pub mod EsnLaws
-pub mod ZoneLaws
-pub mod CoveredLaws
 pub mod ClashLaws
 pub mod View
 pub mod GoodLaws
@@ -20,7 +18,6 @@ pub mod WideLaws
 pub mod Keep
 pub mod SoundLaws
 pub mod KeepSound
-pub mod Zones
 pub mod Overnight
 pub mod Shown
 pub mod Incident

@@ -20,14 +20,14 @@ part_length a n l h = length-take-le n (drop a l) (rw length-drop (omega arith))
 -- ---- d with s in the place of the m bytes from b on, as a lent part comes back
 
 module _ (d s : List ℕ) (b m : ℕ) (hb : b + m ≤ length d) (hs : length s ≡ m) where
-  pub mid_front : take b (take b d ++ (s ++ drop m (drop b d))) ≡ take b d
-  mid_front = take_at (take b d) (s ++ drop m (drop b d)) b (length-take-le b d (omega arith))
+  front : take b (take b d ++ (s ++ drop m (drop b d))) ≡ take b d
+  front = take_at (take b d) (s ++ drop m (drop b d)) b (length-take-le b d (omega arith))
 
   rest : drop b (take b d ++ (s ++ drop m (drop b d))) ≡ s ++ drop m (drop b d)
   rest = drop_at (take b d) (s ++ drop m (drop b d)) b (length-take-le b d (omega arith))
 
-  pub mid_back : drop (b + m) (take b d ++ (s ++ drop m (drop b d))) ≡ drop (b + m) d
-  mid_back =
+  back : drop (b + m) (take b d ++ (s ++ drop m (drop b d))) ≡ drop (b + m) d
+  back =
       sym (drop-drop m b (take b d ++ (s ++ drop m (drop b d))))
       ∙ ap (drop m) rest
       ∙ drop_at s (drop m (drop b d)) m hs
@@ -46,7 +46,7 @@ module _ (d s : List ℕ) (b m : ℕ) (hb : b + m ≤ length d) (hs : length s �
       take_drop n a (take b d ++ (s ++ drop m (drop b d)))
       ∙ ap (drop a)
       (sym (take-take (a + n) b (take b d ++ (s ++ drop m (drop b d))) h)
-      ∙ ap (take (a + n)) mid_front
+      ∙ ap (take (a + n)) front
       ∙ take-take (a + n) b d h)
       ∙ sym (take_drop n a d)
 
@@ -58,7 +58,7 @@ module _ (d s : List ℕ) (b m : ℕ) (hb : b + m ≤ length d) (hs : length s �
       ap (take n)
       (subst (λ (x : ℕ). drop x (take b d ++ (s ++ drop m (drop b d))) ≡ drop x d) e
       (sym (drop-drop k (b + m) (take b d ++ (s ++ drop m (drop b d))))
-      ∙ ap (drop k) mid_back
+      ∙ ap (drop k) back
       ∙ drop-drop k (b + m) d))
 
 -- ---- places of w bytes

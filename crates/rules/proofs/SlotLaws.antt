@@ -2,14 +2,14 @@
 -- Assumes nothing.
 use mathlib.Core.Path.{◌≡◌, refl, sym, ap, ◌∙◌}
 use mathlib.Core.Logic.{◌≢◌}
-use mathlib.Core.Bool.{Bool, true, false, ◌||◌, cond}
-use mathlib.Core.List.{List, [], ◌∷◌, ◌++◌, append-nil, append_assoc}
-use Prim.Native.Nat.{ℕ, zero, suc, ◌+◌, ◌*◌, ◌-◌, ◌/◌, ◌%◌, ◌≤◌, ◌<◌}
+use mathlib.Core.Bool.{true, false}
+use mathlib.Core.List.{List, [], ◌∷◌, ◌++◌, append-nil}
+use Prim.Native.Nat.{ℕ, zero, suc, ◌+◌, ◌*◌, ◌/◌, ◌%◌, ◌≤◌, ◌<◌}
 use native.Mathlib.Omega.{arith}
-use lib.Dec.{leb, eqb}
-use lib.ListN.{length, take, drop, get_or, replicate, length-append, length-take, length-drop, take-append-drop, length-replicate, drop_of_length-le}
-use lib.Seq.{take_all, take_at, drop_at, drop-drop, take-append-add, drop-append-add, get_or-take, get_or-drop}
-use borrow.Author.Tests.{eqb-true, le-leb, leb-true}
+use lib.Dec.{eqb}
+use lib.ListN.{length, take, drop, get_or, replicate, length-append, length-drop, length-replicate, drop_of_length-le}
+use lib.Seq.{take_all, take_at, drop_at, drop-drop}
+use borrow.Author.Tests.{eqb-true, le-leb}
 use Rattle.text.specs.Text.{part, all_equal, put_at}
 use Rattle.text.proofs.Laws.{and_left, and_right}
 use Rattle.calendar.specs.declared.Day.{Day}
@@ -19,7 +19,7 @@ use Rattle.rules.specs.declared.Found.TheVariants.{Nothing}
 use Rattle.rules.specs.Walks.{find}
 use Rattle.rules.specs.Slots.{place, good_length, slots, slot_at, with_slot, state_of, slot_day, record_of, slot_head, slot_of, restated, written, is_zero, used_sound, slot_sound, unsound_slot, register_sound, unsound_by, register_sound_by, row_slots, row_slot_at, with_row_slot, is_present, is_vacant, row_of, row_head, row_slot_of, row_written, free_row_slot, row_slot_sound, unsound_row_slot, guide_sound}
 use Rattle.rules.proofs.WalkLaws.{find_nowhere, and_both}
-use Rattle.rules.proofs.PlaceLaws.{part_length, mid_length, mid_front, mid_same, mid_before, mid_after, mid_back, place_same, place_other, place_length}
+use Rattle.rules.proofs.PlaceLaws.{part_length, place_same, place_other, place_length}
 
 -- a data record has 512 bytes, a guide row 200
 abbrev pub Whole : List ℕ → Type 0
@@ -34,87 +34,6 @@ WholeRow g = length g ≡ 200
 pub put_is : (i m : ℕ) (b s : List ℕ) → length b ≡ m → i + m ≤ length s → put_at i b s ≡ take i s ++ (b ++ drop m (drop i s))
 unfolding put_at
 put_is i m b s l h = rw (l, le-leb (i + m) (length s) h, drop-drop)
-
--- no byte is added or lost
-pub put_length : (i : ℕ) (b s : List ℕ) → length (put_at i b s) ≡ length s
-unfolding put_at
-put_length i b s = go (leb (i + length b) (length s)) refl
-  where
-    go : (x : Bool) → leb (i + length b) (length s) ≡ x → length (cond x (take i s ++ (b ++ drop (i + length b) s)) s) ≡ length s
-    go true e =
-        let h = leb-true (i + length b) (length s) e in
-        simp (length-append, length-take, length-drop) (omega arith)
-    go false e = refl
-
--- the n bytes from a lie before the m bytes from i, or behind them
-abbrev pub clear_of : ℕ → ℕ → ℕ → ℕ → Bool
-clear_of i m a n = leb (a + n) i || leb (i + m) a
-
-module _ (i m : ℕ) (b s : List ℕ) (l : length b ≡ m) (h : i + m ≤ length s) where
-  -- the bytes put are read back
-  pub put_same : part i m (put_at i b s) ≡ b
-  put_same = ap (part i m) (put_is i m b s l h) ∙ mid_same s b i m h l
-
-  -- bytes clear of them are as they were: one law for every other field, and for fields that follow one another
-  pub put_clear : (a n : ℕ) → clear_of i m a n ≡ true → part a n (put_at i b s) ≡ part a n s
-  put_clear a n c = ap (part a n) (put_is i m b s l h) ∙ go (leb (a + n) i) refl c
-    where
-      go : (x : Bool) → leb (a + n) i ≡ x → x || leb (i + m) a ≡ true
-          → part a n (take i s ++ (b ++ drop m (drop i s))) ≡ part a n s
-      go true q c = mid_before s b i m h l a n (leb-true (a + n) i q)
-      go false q c = mid_after s b i m h l a n (leb-true (i + m) a c)
-
-  -- byte by byte: in them, before them and behind them
-  pub byte_in : (j : ℕ) → j < m → get_or (put_at i b s) (i + j) 0 ≡ get_or b j 0
-  byte_in j q =
-      sym (get_or-drop i (put_at i b s) j 0)
-      ∙ sym (get_or-take m (drop i (put_at i b s)) j 0 q)
-      ∙ ap (λ x. get_or x j 0) put_same
-
-  pub byte_before : (j : ℕ) → j < i → get_or (put_at i b s) j 0 ≡ get_or s j 0
-  byte_before j q =
-      sym (get_or-take i (put_at i b s) j 0 q)
-      ∙ ap (λ x. get_or x j 0) (ap (take i) (put_is i m b s l h) ∙ mid_front s b i m h l)
-      ∙ get_or-take i s j 0 q
-
-  pub byte_behind : (j : ℕ) → i + m ≤ j → get_or (put_at i b s) j 0 ≡ get_or s j 0
-  byte_behind j q =
-      let e : i + m + (j - (i + m)) ≡ j = omega arith in
-      rw (← e)
-      (sym (get_or-drop (i + m) (put_at i b s) (j - (i + m)) 0)
-      ∙ ap (λ x. get_or x (j - (i + m)) 0) (ap (drop (i + m)) (put_is i m b s l h) ∙ mid_back s b i m h l)
-      ∙ get_or-drop (i + m) s (j - (i + m)) 0)
-
-  -- other bytes over them: nothing of them is left
-  pub put_twice : (c : List ℕ) → length c ≡ m → put_at i c (put_at i b s) ≡ put_at i c s
-  put_twice c k =
-      let t : List ℕ = take i s ++ (b ++ drop m (drop i s)) in
-      let e = mid_length s b i m h l in
-      let x : drop m (drop i t) ≡ drop m (drop i s) = drop-drop m i t ∙ mid_back s b i m h l ∙ sym (drop-drop m i s) in
-      ap (put_at i c) (put_is i m b s l h)
-      ∙ put_is i m c t k (omega arith)
-      ∙ ap (λ y. y ++ (c ++ drop m (drop i t))) (mid_front s b i m h l)
-      ∙ ap (λ y. take i s ++ (c ++ y)) x
-      ∙ sym (put_is i m c s k h)
-
-  -- in what stands behind n other bytes
-  pub put_behind : (a : List ℕ) (n : ℕ) → length a ≡ n → put_at (n + i) b (a ++ s) ≡ a ++ put_at i b s
-  put_behind a n e =
-      let k : n + i + m ≤ length (a ++ s) = simp length-append (omega arith) in
-      let x : drop (n + i) (a ++ s) ≡ drop i s = rw (← e) (drop-append-add a s i) in
-      let y : take (n + i) (a ++ s) ≡ a ++ take i s = rw (← e) (take-append-add a s i) in
-      put_is (n + i) m b (a ++ s) l k
-      ∙ ap (λ z. take (n + i) (a ++ s) ++ (b ++ drop m z)) x
-      ∙ ap (λ z. z ++ (b ++ drop m (drop i s))) y
-      ∙ append_assoc a (take i s) (b ++ drop m (drop i s))
-      ∙ ap (λ x. a ++ x) (sym (put_is i m b s l h))
-
--- bytes put where they stand change nothing
-pub put_own : (i m : ℕ) (s : List ℕ) → i + m ≤ length s → put_at i (part i m s) s ≡ s
-put_own i m s h =
-    put_is i m (part i m s) s (part_length i m s h) h
-    ∙ ap (λ x. take i s ++ x) (take-append-drop m (drop i s))
-    ∙ take-append-drop i s
 
 -- bytes over the whole rest
 put_rest : (i m : ℕ) (b a s : List ℕ) → length a ≡ i → length b ≡ m → length s ≡ m → put_at i b (a ++ s) ≡ a ++ b
@@ -204,11 +123,6 @@ pub present_row : (g : List ℕ) → is_present (row_slot_of g) ≡ true
 unfolding is_present row_slot_of
 present_row g = refl
 
--- the row in a slot has 200 bytes
-pub row_length : (s : List ℕ) → length s ≡ 208 → WholeRow (row_of s)
-unfolding row_of
-row_length s h = part_length 8 200 s (omega arith)
-
 -- the row that was written
 pub row_slot : (g : List ℕ) → WholeRow g → row_of (row_slot_of g) ≡ g
 unfolding row_of row_slot_of
@@ -256,7 +170,8 @@ module _ (G : List ℕ) (k : ℕ) (h : k < row_slots G) where
   length_row_slot_at = part_length (k * 208) 208 G row_room
 
   pub whole_row_at : WholeRow (row_of (row_slot_at G k))
-  whole_row_at = row_length (row_slot_at G k) length_row_slot_at
+  unfolding row_of
+  whole_row_at = part_length 8 200 (row_slot_at G k) (omega (arith, length_row_slot_at))
 
   -- a slot of 208 bytes is written
   module _ (s : List ℕ) (e : length s ≡ 208) where

@@ -1,24 +1,22 @@
--- When what is stored is sound: a record of good form keeps it with the ESN of a row of good form, or its blank one filled in from it,
--- and a row of good form keeps it with the ESN of another. Assumes nothing.
+-- When what is stored is sound: a record of good form keeps it when its blank ESN is filled in from a row of good form. Assumes nothing.
 use mathlib.Core.Path.{◌≡◌, refl, ◌∙◌}
 use mathlib.Core.Bool.{Bool, true, false, not, ◌&&◌, ◌||◌, cond}
 use mathlib.Core.List.{List, [], ◌∷◌}
 use Prim.Native.Nat.{ℕ, zero, suc, ◌+◌, ◌-◌, ◌≤◌}
 use native.Mathlib.Omega.{arith}
 use lib.Dec.{leb, eqb}
-use lib.ListN.{length, drop}
+use lib.ListN.{drop}
 use borrow.Author.Tests.{eqb-true, eqb-false, leb-true, le-leb, ne_eqb}
 use Rattle.text.specs.declared.Class.TheVariants.{Digit}
 use Rattle.text.specs.Text.{in_class, blank, run_of, runs_of, part}
 use Rattle.text.proofs.Laws.{and_left, and_right}
-use Rattle.layout.specs.Tables.{data_record, guide_row, start_of, row_esn, zone, row_zone, high_end, parity_letter}
-use Rattle.layout.specs.Fields.{function_of, esn_of, has_esn, row_esn_of, with_esn, low_of, high_of, parity_of}
-use Rattle.layout.specs.Rules.{keeps, keeps_other, high_fault, parity_fault, is_whole, fault_by, from_zero, or_else, fault_in, is_lax, record_fault, row_fault}
+use Rattle.layout.specs.Tables.{data_record, guide_row, start_of, row_esn, zone, high_end, parity_letter}
+use Rattle.layout.specs.Fields.{function_of, esn_of, has_esn, row_esn_of, with_esn}
+use Rattle.layout.specs.Rules.{keeps, keeps_other, is_whole, fault_by, from_zero, or_else, fault_in, is_lax, record_fault, row_fault}
 use Rattle.rules.specs.Records.{shown}
 use Rattle.rules.proofs.WalkLaws.{not_true}
-use Rattle.rules.proofs.SlotLaws.{Whole, WholeRow, clear_of}
+use Rattle.rules.proofs.SlotLaws.{Whole, WholeRow}
 use Rattle.rules.proofs.EsnLaws.{esn_at, esn_size, clear_of_esn, esn_with, part_with, function_with, shown_has, shown_blank, has_shown}
-use Rattle.rules.proofs.ZoneLaws.{row_esn_at, row_esn_size, row_with, row_esn_with, row_part_with, low_with, high_with, parity_with}
 
 -- ---- the fields of a line of good form
 
@@ -179,86 +177,19 @@ module _ (g r : List ℕ) (f : WholeRow g) (k : Whole r) (z : GoodEsn (row_esn_o
           let u : q ≡ zone = eqb-true q zone (and_right v w (and_right p (v && w) d)) in
           rw (x, y, u, esn_part) (esn_keeps (row_esn_of g) z at lax (with_esn (row_esn_of g) r))
 
--- a record of good form has it still with the ESN of a row of good form
-pub fault_with : (g r : List ℕ) → WholeRow g → Whole r → row_fault guide_row g ≡ 0 → record_fault data_record r ≡ 0
-    → record_fault data_record (with_esn (row_esn_of g) r) ≡ 0
-unfolding record_fault
-fault_with g r f k e d =
-    rw (function_with g r f k)
-    (fields_keep field_apart (is_lax (function_of r)) r (with_esn (row_esn_of g) r)
-    (field_keeps g r f k (good_esn g e) (is_lax (function_of r))) data_record refl d)
-
--- and has an ESN
-pub has_with : (g r : List ℕ) → WholeRow g → Whole r → row_fault guide_row g ≡ 0 → has_esn (with_esn (row_esn_of g) r) ≡ true
-unfolding has_esn
-has_with g r f k e =
-    let p : part esn_at esn_size (with_esn (row_esn_of g) r) ≡ row_esn_of g = esn_part g r f k (good_esn g e) true in
-    rw (p, esn_there (row_esn_of g) (good_esn g e)) refl
-
--- so it is when its blank ESN is filled in from it
+-- a record of good form has it still when its blank ESN is filled in from a row of good form
 pub fault_shown : (g r : List ℕ) → WholeRow g → Whole r → row_fault guide_row g ≡ 0 → record_fault data_record r ≡ 0
     → record_fault data_record (shown r g) ≡ 0
+unfolding record_fault
 fault_shown g r f k e d = go (has_esn r) refl
   where
     go : (b : Bool) → has_esn r ≡ b → record_fault data_record (shown r g) ≡ 0
     go true q = rw (shown_has g r f k q) d
-    go false q = rw (shown_blank g r f k q) (fault_with g r f k e d)
+    go false q =
+        rw (shown_blank g r f k q, function_with g r f k)
+        (fields_keep field_apart (is_lax (function_of r)) r (with_esn (row_esn_of g) r)
+        (field_keeps g r f k (good_esn g e) (is_lax (function_of r))) data_record refl d)
 
 -- and has an ESN
 pub esn_filled : (g r : List ℕ) → WholeRow g → Whole r → row_fault guide_row g ≡ 0 → has_esn (shown r g) ≡ true
 esn_filled g r f k e = has_shown g r f k (esn_there (row_esn_of g) (good_esn g e))
-
--- ---- a row with the ESN of another
-
--- a field of the table is clear of the ESN, or is the ESN
-abbrev row_field_apart : ℕ → ℕ → ℕ → Bool
-row_field_apart at n r =
-    clear_of row_esn_at row_esn_size (from_zero at) n || (eqb (from_zero at) row_esn_at && (eqb n row_esn_size && eqb r row_zone))
-
--- the fault of a field looks at itself, and at the line for both ends and the parity alone
-fault_by_ends : (at n r : ℕ) (lax : Bool) (s t f : List ℕ) → low_of t ≡ low_of s → high_of t ≡ high_of s → parity_of t ≡ parity_of s
-    → fault_by at n r lax t f ≡ fault_by at n r lax s f
-unfolding fault_by high_fault parity_fault
-fault_by_ends at n r lax s t f a b c = rw (a, b, c) refl
-
-module _ (h g : List ℕ) (f : length (row_esn_of h) ≡ 5) (w : WholeRow g) (z : GoodEsn (row_esn_of h)) where
-  -- the row with the other one's ESN
-  abbrev zonedRow : List ℕ
-  zonedRow = row_with (row_esn_of h) g
-
-  row_esn_part : part row_esn_at row_esn_size zonedRow ≡ row_esn_of h
-  unfolding row_esn_of
-  row_esn_part = row_esn_with (row_esn_of h) g f w
-
-  -- the ESN keeps its rule
-  row_esn_keeps : (at : ℕ) → fault_by at row_esn_size row_zone false zonedRow (row_esn_of h) ≡ 0
-  unfolding fault_by keeps keeps_other
-  row_esn_keeps at = rw (z.whole, z.runs) refl
-
-  -- a field
-  row_field_keeps : (at n q : ℕ) → row_field_apart at n q ≡ true → fault_by at n q false g (part (from_zero at) n g) ≡ 0
-      → fault_by at n q false zonedRow (part (from_zero at) n zonedRow) ≡ 0
-  row_field_keeps at n q a e = go (clear_of row_esn_at row_esn_size (from_zero at) n) refl a
-    where
-      go : (b : Bool) → clear_of row_esn_at row_esn_size (from_zero at) n ≡ b
-          → b || (eqb (from_zero at) row_esn_at && (eqb n row_esn_size && eqb q row_zone)) ≡ true
-          → fault_by at n q false zonedRow (part (from_zero at) n zonedRow) ≡ 0
-      go true c d =
-          rw (row_part_with (row_esn_of h) g f w (from_zero at) n c)
-          (fault_by_ends at n q false g zonedRow (part (from_zero at) n g) (low_with (row_esn_of h) g f w) (high_with (row_esn_of h) g f w)
-          (parity_with (row_esn_of h) g f w) ∙ e)
-      go false c d =
-          let p = eqb (from_zero at) row_esn_at in
-          let v = eqb n row_esn_size in
-          let y = eqb q row_zone in
-          let i : from_zero at ≡ row_esn_at = eqb-true (from_zero at) row_esn_at (and_left p (v && y) d) in
-          let j : n ≡ row_esn_size = eqb-true n row_esn_size (and_left v y (and_right p (v && y) d)) in
-          let k : q ≡ row_zone = eqb-true q row_zone (and_right v y (and_right p (v && y) d)) in
-          rw (i, j, k, row_esn_part) (row_esn_keeps at)
-
--- a row of good form has it still with the ESN of another one
-pub row_fault_with : (h g : List ℕ) → length (row_esn_of h) ≡ 5 → WholeRow g → row_fault guide_row h ≡ 0 → row_fault guide_row g ≡ 0
-    → row_fault guide_row (row_with (row_esn_of h) g) ≡ 0
-unfolding row_fault
-row_fault_with h g f w e d =
-    fields_keep row_field_apart false g (row_with (row_esn_of h) g) (row_field_keeps h g f w (good_esn h e)) guide_row refl d

@@ -25,7 +25,7 @@ use Rattle.rules.specs.declared.Refusal.{Refusal}
 use Rattle.rules.specs.declared.Checked.{Checked}
 use Rattle.rules.specs.declared.Checked.TheVariants.{Good, Refused}
 use Rattle.rules.specs.Records.{filed_of, answer_of, register_after, Step, step, applied}
-use Rattle.rules.specs.Rows.{row_code_of, row_answer_of, row_step, row_applied}
+use Rattle.rules.specs.Rows.{row_code_of, row_answer_of, guide_after, row_applied}
 use Rattle.rules.specs.Takes.{shape_of, Stores, line_at, lines_in, checked, line_applied, after, answer_at, answers_to, zeros_in, others_in, refused_file, applied_file, taken}
 use Rattle.rules.proofs.View.{Took, took, RowTook, row_took}
 use Rattle.rules.proofs.GoodLaws.{checked_by}
@@ -85,27 +85,32 @@ accepted_took R G h r a = rw a.result (took R G h r a.code a.date a.answered)
 
 -- ---- a row
 
--- a row whose answer is not 0 leaves both stores
-pub row_applied_not : (R G : List ℕ) (h : Header) (g : List ℕ) → (row_applied R G h g).answer ≢ 0
-    → ((row_applied R G h g).register ≡ R) × ((row_applied R G h g).guide ≡ G)
-unfolding row_applied row_step
+-- a row whose answer is not 0 leaves the guide
+pub row_applied_not : (R G : List ℕ) (h : Header) (g : List ℕ) → (row_applied R G h g).answer ≢ 0 → (row_applied R G h g).guide ≡ G
+unfolding row_applied
 row_applied_not R G h g n = go (eqb (row_answer_of R G g (row_code_of g)) 0) refl
   where
-    go : (b : Bool) → eqb (row_answer_of R G g (row_code_of g)) 0 ≡ b
-        → ((row_applied R G h g).register ≡ R) × ((row_applied R G h g).guide ≡ G)
+    go : (b : Bool) → eqb (row_answer_of R G g (row_code_of g)) 0 ≡ b → (row_applied R G h g).guide ≡ G
     go true q = absurd (n (rw q))
-    go false q = (rw q, rw q)
+    go false q = rw q
 
--- a row whose answer is 0 leaves what the definition of 0 says, which is known by the view
-pub row_accepted_took : (R G : List ℕ) (h : Header) (g : List ℕ) → (row_applied R G h g).answer ≡ 0
-    → RowTook R G g (row_code_of g) (row_applied R G h g).register (row_applied R G h g).guide
-unfolding row_applied row_step
-row_accepted_took R G h g e = go (eqb (row_answer_of R G g (row_code_of g)) 0) refl
+-- a row whose answer is 0 leaves what the definition of 0 says
+pub row_accepted : (R G : List ℕ) (h : Header) (g : List ℕ) → (row_applied R G h g).answer ≡ 0
+    → (row_answer_of R G g (row_code_of g) ≡ 0) × ((row_applied R G h g).guide ≡ guide_after G g (row_code_of g))
+unfolding row_applied
+row_accepted R G h g e = go (eqb (row_answer_of R G g (row_code_of g)) 0) refl
   where
     go : (b : Bool) → eqb (row_answer_of R G g (row_code_of g)) 0 ≡ b
-        → RowTook R G g (row_code_of g) (row_applied R G h g).register (row_applied R G h g).guide
-    go true q = rw q (row_took R G g (row_code_of g) (eqb-true (row_answer_of R G g (row_code_of g)) 0 q))
+        → (row_answer_of R G g (row_code_of g) ≡ 0) × ((row_applied R G h g).guide ≡ guide_after G g (row_code_of g))
+    go true q = (eqb-true (row_answer_of R G g (row_code_of g)) 0 q, rw q)
     go false q = absurd (eqb-false (row_answer_of R G g (row_code_of g)) 0 q (rw q at e))
+
+-- and what it did is known by the view
+pub row_accepted_took : (R G : List ℕ) (h : Header) (g : List ℕ) → (row_applied R G h g).answer ≡ 0
+    → RowTook R G g (row_code_of g) (row_applied R G h g).guide
+row_accepted_took R G h g e =
+    let a = row_accepted R G h g e in
+    rw a.1 (row_took R G g (row_code_of g) a.0)
 
 -- ---- a line of either kind
 
@@ -114,9 +119,7 @@ pub line_not : (k : Kind) (h : Header) (l : List ℕ) (s : Stores) → (line_app
 unfolding line_applied
 line_not (Data v) h l s n =
     ap (λ (R : List ℕ). record { register = R; guide = s.guide }) (applied_not s.register s.guide h ((shape_of (Data v)).wide l) n)
-line_not Guide h l s n =
-    let e = row_applied_not s.register s.guide h l n in
-    rw (e.0, e.1)
+line_not Guide h l s n = rw (row_applied_not s.register s.guide h l n)
 
 -- so the stores after it are those before it
 pub after_not : (k : Kind) (h : Header) (f : List ℕ) (s : Stores) (i : ℕ) → answer_at k h f s i ≢ 0

@@ -16,14 +16,14 @@ use Rattle.layout.specs.Fields.{number_of, company_of, esn_of, has_esn, row_esn_
 use Rattle.rules.specs.declared.Code.{Code}
 use Rattle.rules.specs.declared.Code.TheVariants.{Insert, Change, Delete, Unlock, Migrate}
 use Rattle.rules.specs.declared.RowCode.{RowCode}
-use Rattle.rules.specs.declared.RowCode.TheVariants.{Insert as InsertRow, Delete as DeleteRow, Change as ChangeRow, NoCode}
+use Rattle.rules.specs.declared.RowCode.TheVariants.{Insert as InsertRow, Delete as DeleteRow, NoCode}
 use Rattle.rules.specs.declared.Found.{Found}
 use Rattle.rules.specs.declared.Found.TheVariants.{At, Nothing}
 use Rattle.rules.specs.Walks.{find, or_else, is_nothing, on_found}
-use Rattle.rules.specs.Slots.{slots, slot_at, with_slot, state_of, slot_day, record_of, slot_of, is_free, is_held, is_open, is_resting, is_used, is_live, row_slots, row_slot_at, with_row_slot, is_present, is_vacant, row_of, row_slot_of, free_row_slot, row_rezoned}
-use Rattle.rules.specs.Covers.{covers, clash, same_range, same_row}
+use Rattle.rules.specs.Slots.{slots, slot_at, with_slot, state_of, slot_day, record_of, slot_of, is_free, is_held, is_open, is_resting, is_used, is_live, row_slots, row_slot_at, with_row_slot, is_present, is_vacant, row_of, row_slot_of, free_row_slot}
+use Rattle.rules.specs.Covers.{covers, clash, same_row}
 use Rattle.rules.specs.Records.{is_insert, is_migrate, stores, is_own, state_after, has_number, find_number, is_over, find_row, free_at, is_reusable, reusable_at, find_free, find_reusable, find_spare, too_early, other_esn, table, answer_of, shown, shown_under, slot_after, register_after}
-use Rattle.rules.specs.Rows.{clash_at, find_clash, vacant_at, find_vacant, same_at, find_same, range_at, find_range, entry_under, find_entry, insert_table, delete_table, change_table, row_answer_of, rezoned_to, register_by, guide_after}
+use Rattle.rules.specs.Rows.{clash_at, find_clash, vacant_at, find_vacant, same_at, find_same, entry_under, find_entry, insert_table, delete_table, row_answer_of, guide_after}
 use Rattle.rules.specs.Demands.{used_at, live_at, present_at}
 use Rattle.rules.proofs.WalkLaws.{clash-bool, and_both, and_rest, not_false, find_some, find_none, is_nothing_lem, AllFail, positive, first_zero}
 
@@ -243,34 +243,31 @@ later R i d e = not_false (is_before (slot_day (slot_at R i)) d) e
 
 -- ---- a guide row g with code c
 
--- S and K are register and guide after the row was accepted: the row stands where none stood, and clashes with none; or the same row is
--- gone, and covered no entry; or the row of its range has its ESN, and so has every used slot under it
-pub data RowTook (R G g : List ℕ) (c : RowCode) (S K : List ℕ) : Type 0 where
+-- K is the guide G after the row was accepted: the row stands where none stood, and clashes with none; or the same row is gone,
+-- and covered no entry
+pub data RowTook (R G g : List ℕ) (c : RowCode) (K : List ℕ) : Type 0 where
   added : c ≡ InsertRow → (k : ℕ) → k < row_slots G → is_vacant (row_slot_at G k) ≡ true
       → ((j : ℕ) → present_at G j → clash (row_of (row_slot_at G j)) g ≡ false)
-      → S ≡ R → K ≡ with_row_slot G k (row_slot_of g) → RowTook R G g c S K
+      → K ≡ with_row_slot G k (row_slot_of g) → RowTook R G g c K
   removed : c ≡ DeleteRow → (k : ℕ) → present_at G k → same_row (row_of (row_slot_at G k)) g ≡ true
       → ((i : ℕ) → live_at R i → covers (row_of (row_slot_at G k)) (record_of (slot_at R i)) ≡ false)
-      → S ≡ R → K ≡ with_row_slot G k free_row_slot → RowTook R G g c S K
-  changed : c ≡ ChangeRow → (k : ℕ) → present_at G k → same_range (row_of (row_slot_at G k)) g ≡ true
-      → S ≡ rezoned_to (row_of (row_slot_at G k)) (row_esn_of g) R (slots R)
-      → K ≡ with_row_slot G k (row_rezoned (row_esn_of g) (row_slot_at G k)) → RowTook R G g c S K
+      → K ≡ with_row_slot G k free_row_slot → RowTook R G g c K
 
 -- o is a row that clashes, p a vacant slot
 go_added : (R G g : List ℕ) (o p : Found) → find_clash g G ≡ o → find_vacant G ≡ p → AllFail (insert_table o p)
-    → RowTook R G g InsertRow R (on_found p G (λ k. with_row_slot G k (row_slot_of g)))
+    → RowTook R G g InsertRow (on_found p G (λ k. with_row_slot G k (row_slot_of g)))
 unfolding AllFail find_clash clash_at find_vacant vacant_at
 go_added R G g Nothing (At k) eo ep t =
     let f = find_some (vacant_at G) (row_slots G) k ep in
     added refl k f.0 f.1
     (λ j u. and_rest (is_present (row_slot_at G j)) (clash (row_of (row_slot_at G j)) g) u.1 (find_none (clash_at g G) (row_slots G) eo j u.0))
-    refl refl
+    refl
 go_added R G g Nothing Nothing eo ep t = clash-bool refl t.1.0
 go_added R G g (At j) p eo ep t = clash-bool refl t.0
 
 -- m is the same row
 go_removed : (R G g : List ℕ) (m : Found) → find_same g G ≡ m → AllFail (delete_table R G m)
-    → RowTook R G g DeleteRow R (on_found m G (λ k. with_row_slot G k free_row_slot))
+    → RowTook R G g DeleteRow (on_found m G (λ k. with_row_slot G k free_row_slot))
 unfolding AllFail find_same same_at find_entry entry_under
 go_removed R G g (At k) em t =
     let f = find_some (same_at g G) (row_slots G) k em in
@@ -279,26 +276,13 @@ go_removed R G g (At k) em t =
     let p = is_present (row_slot_at G k) in
     removed refl k (f.0, and_left p (same_row o g) f.1) (and_right p (same_row o g) f.1)
     (λ i u. and_rest (is_live (state_of (slot_at R i))) (covers o (record_of (slot_at R i))) u.1 (find_none (entry_under o R) (slots R) e i u.0))
-    refl refl
+    refl
 go_removed R G g Nothing em t = clash-bool refl t.0
 
--- m is the row of its range
-go_changed : (R G g : List ℕ) (m : Found) → find_range g G ≡ m → AllFail (change_table m)
-    → RowTook R G g ChangeRow (on_found m R (λ k. rezoned_to (row_of (row_slot_at G k)) (row_esn_of g) R (slots R)))
-    (on_found m G (λ k. with_row_slot G k (row_rezoned (row_esn_of g) (row_slot_at G k))))
-unfolding AllFail find_range range_at
-go_changed R G g (At k) em t =
-    let f = find_some (range_at g G) (row_slots G) k em in
-    let p = is_present (row_slot_at G k) in
-    let q = same_range (row_of (row_slot_at G k)) g in
-    changed refl k (f.0, and_left p q f.1) (and_right p q f.1) refl refl
-go_changed R G g Nothing em t = clash-bool refl t.0
-
 -- a row answered 0 was taken
-pub row_took : (R G g : List ℕ) (c : RowCode) → row_answer_of R G g c ≡ 0 → RowTook R G g c (register_by R G g c) (guide_after G g c)
+pub row_took : (R G g : List ℕ) (c : RowCode) → row_answer_of R G g c ≡ 0 → RowTook R G g c (guide_after G g c)
 unfolding positive
 row_took R G g InsertRow e =
     go_added R G g (find_clash g G) (find_vacant G) refl refl (first_zero (insert_table (find_clash g G) (find_vacant G)) refl e)
 row_took R G g DeleteRow e = go_removed R G g (find_same g G) refl (first_zero (delete_table R G (find_same g G)) refl e)
-row_took R G g ChangeRow e = go_changed R G g (find_range g G) refl (first_zero (change_table (find_range g G)) refl e)
 row_took R G g NoCode e = absurd (omega arith)

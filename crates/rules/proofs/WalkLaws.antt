@@ -144,12 +144,6 @@ pub at_most_one : (b : Bool) → cond b 1 0 ≤ 1
 at_most_one true = omega arith
 at_most_one false = omega arith
 
--- at most all places pass
-pub count_le : (p : ℕ → Bool) (n : ℕ) → count p n ≤ n
-unfolding count
-count_le p zero = omega arith
-count_le p (suc n) = omega (arith, count_le p n, at_most_one (p n))
-
 pub count_same : (p q : ℕ → Bool) (n : ℕ) → ((j : ℕ) → j < n → q j ≡ p j) → count q n ≡ count p n
 unfolding count
 count_same p q zero f = refl

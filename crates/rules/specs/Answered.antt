@@ -70,7 +70,6 @@ pub record TakeRefused (s : Stores) (before : List ℕ) (given : ℕ) (o : Outco
   pub done : o.result.done ≡ 0
   pub undone : o.result.undone ≡ 0
   pub last : o.result.last ≡ given
-  pub covered : o.result.covered ≡ 0
 
 -- none of the nine tests hits: the stores, the file's length, the room for answers, header, cycle, trailer, count and lines
 pub record NoneHits (k : Kind) (s : Stores) (f : List ℕ) (room : ℕ) (last : Cycle) (h : Header) : Type 0 where
@@ -85,11 +84,6 @@ pub record NoneHits (k : Kind) (s : Stores) (f : List ℕ) (room : ℕ) (last : 
   pub counted : is_count count (lines_in k f) ≡ true
   pub lines : (i : ℕ) → i < lines_in k f → line_fault k (line_at k f i) ≡ 0
 
--- at most so many slots are covered by n lines: a data file covers none, and a row each slot once
-abbrev pub most_covered : Kind → ℕ → ℕ → ℕ
-most_covered (Data v) n slots = 0
-most_covered Guide n slots = n * slots
-
 -- "answer byte i is written, bytes past n stay. Returned: n, how many answers are 0, how many not, the new last cycle": under the
 -- header h, where none of the nine hits
 pub record TakeDone (k : Kind) (s : Stores) (f answers : List ℕ) (given : ℕ) (o : Outcome) (h : Header) : Type 0 where
@@ -97,7 +91,6 @@ pub record TakeDone (k : Kind) (s : Stores) (f answers : List ℕ) (given : ℕ)
   pub records : o.result.records ≡ lines_in k f
   pub counts : o.result.done + o.result.undone ≡ lines_in k f
   pub last : o.result.last ≡ h.cycle.0
-  pub covered : o.result.covered ≤ most_covered k (lines_in k f) (slots s.register)
   pub each : (i : ℕ) → i < lines_in k f → get_or o.answers i 0 ≡ answer_at k h f s i
   pub number : (i : ℕ) → i < lines_in k f → member_of (get_or o.answers i 0) (answer_numbers k) ≡ true
   pub rest : drop (lines_in k f) o.answers ≡ drop (lines_in k f) answers
@@ -124,7 +117,7 @@ TakesAnswer =
 -- ---- a check (2026-03)
 
 -- a check is refused by a number of the table, with a count of 0, or "returns n"; it is good exactly where none of the nine tests hits;
--- done, undone and covered are 0 and the last cycle is as given in either case
+-- done and undone are 0 and the last cycle is as given in either case
 pub record CheckAnswered (k : Kind) (s : Stores) (f answers : List ℕ) (given : ℕ) (c : Taken) : Type 0 where
   pub number : member_of c.refusal take_numbers ≡ true
   pub refused : c.refusal ≢ 0 → c.records ≡ 0
@@ -136,7 +129,6 @@ pub record CheckAnswered (k : Kind) (s : Stores) (f answers : List ℕ) (given :
   pub done : c.done ≡ 0
   pub undone : c.undone ≡ 0
   pub last : c.last ≡ given
-  pub covered : c.covered ≡ 0
 
 unfoldable pub ChecksAnswer : Type 0
 ChecksAnswer =
@@ -220,8 +212,8 @@ OneData =
 
 unfoldable pub OneGuide : Type 0
 OneGuide =
-    (R G f answers : List ℕ) (last : ℕ) (t u : Taken) (S T H K a b : List ℕ)
-    → TakesGuide R G f answers last t S H a → TakesGuide R G f answers last u T K b → (t ≡ u) × ((S ≡ T) × ((H ≡ K) × (a ≡ b)))
+    (R G f answers : List ℕ) (last : ℕ) (t u : Taken) (S T a b : List ℕ)
+    → TakesGuide R G f answers last t S a → TakesGuide R G f answers last u T b → (t ≡ u) × ((S ≡ T) × (a ≡ b))
 
 unfoldable pub OneCheck : Type 0
 OneCheck =

@@ -13,7 +13,7 @@ use Rattle.rules.specs.Takes.{Stores, Outcome, lines_in, checked, on_checked, re
 -- "A good check returns n": nothing is done, and the last cycle is as given, for nothing was taken
 abbrev pub passed_file : Kind → List ℕ → ℕ → Taken
 passed_file k f last =
-    record { refusal = 0; place = 0; position = 0; records = lines_in k f; done = 0; undone = 0; last = last; covered = 0 }
+    record { refusal = 0; place = 0; position = 0; records = lines_in k f; done = 0; undone = 0; last = last }
 
 -- "one tests all that refusals 1 to 9 test": the tests of `taken`, in their order; "Refusals: unchanged, in both calls"
 unfoldable pub foretold : Kind → Stores → List ℕ → List ℕ → ℕ → Taken
@@ -50,7 +50,6 @@ pub record Foretells (given : ℕ) (c t : Taken) : Type 0 where
   pub done : c.done ≡ 0
   pub undone : c.undone ≡ 0
   pub last : c.last ≡ given
-  pub covered : c.covered ≡ 0
 
 unfoldable pub AllForetold : Type 0
 AllForetold =

@@ -63,22 +63,14 @@ ClashExactly = (g h : List ℕ) → (clash g h ≡ true → Shared g h) × (Shar
 abbrev pub equal_numbers : Spelled → Spelled → Bool
 equal_numbers a b = on_number a false (λ m. on_number b false (λ n. eqb m n))
 
--- 2026-05, "the same street fields, Low, High and parity": Low and High as numbers
-unfoldable pub same_range : List ℕ → List ℕ → Bool
-same_range g h =
+-- "the same street fields, Low and High as numbers, parity and ESN bytes"
+unfoldable pub same_row : List ℕ → List ℕ → Bool
+same_row g h =
     same_street g h
     && (equal_numbers (low_of g) (low_of h)
     && (equal_numbers (high_of g) (high_of h)
-    && eqb (parity_of g) (parity_of h)))
-
--- rows of the same range stand over the same house numbers: a C renumbers just those that it names. Proved in `proofs/ClashLaws`:
--- range_alike
-unfoldable pub RangeAlike : Type 0
-RangeAlike = (g h : List ℕ) → same_range g h ≡ true → (street town : List ℕ) (n : ℕ) → over g street town n ≡ over h street town n
-
--- "the same street fields, Low and High as numbers, parity and ESN bytes"
-unfoldable pub same_row : List ℕ → List ℕ → Bool
-same_row g h = same_range g h && same_esn (row_esn_of g) (row_esn_of h)
+    && (eqb (parity_of g) (parity_of h)
+    && same_esn (row_esn_of g) (row_esn_of h))))
 
 -- two rows that stand over the same house numbers, and have the same ESN
 pub record Alike (g h : List ℕ) : Type 0 where

@@ -10,7 +10,7 @@ use Rattle.std.specs.Prelude.{ℕ, ◌+◌, ◌*◌, ◌<◌, ◌≡◌, ◌≢�
 use Rattle.std.proofs.Math.Option.{Option, none, some}
 use Rattle.text.specs.Text.{same_bytes, member_of}
 use Rattle.layout.specs.declared.frame.Header.{Header}
-use Rattle.layout.specs.Fields.{number_of, company_of, esn_of, row_esn_of, with_esn}
+use Rattle.layout.specs.Fields.{number_of, company_of, esn_of, row_esn_of}
 use Rattle.rules.specs.declared.Kind.{Kind}
 use Rattle.rules.specs.declared.Code.{Code}
 use Rattle.rules.specs.declared.Code.TheVariants.{Insert, Change, Delete, Unlock, Migrate}
@@ -21,7 +21,7 @@ use Rattle.rules.specs.Walks.{count, on_found}
 use Rattle.rules.specs.Slots.{slot_size, slots, slot_at, state_of, record_of, is_held, is_open, is_used, is_live, register_sound}
 use Rattle.rules.specs.Slots.{row_slot_size, row_slots, row_slot_at, is_present, row_of, guide_sound}
 use Rattle.rules.specs.Covers.{over, covers}
-use Rattle.rules.specs.Records.{filed_of, is_insert, is_migrate, is_own, stores, find_number, Step, applied}
+use Rattle.rules.specs.Records.{filed_of, is_insert, is_migrate, is_own, stores, find_number, shown, Step, applied}
 use Rattle.rules.specs.Takes.{Stores, taken}
 use Rattle.rules.specs.Lookups.{is_number, seen}
 use Rattle.rules.specs.History.{Item, entry, row, history_after}
@@ -160,11 +160,11 @@ tally p (row g ∷ h) = tally p h
 
 -- ---- with the history: what a run keeps
 
--- 2026-05: r is "its number's last accepted insert, change or migrate with the ESN its row has today": the row in guide slot k
+-- r "is the last accepted insert, change or migrate of its number, a blank ESN filled in": filled from the row in guide slot k
 pub record IsLast (G : List ℕ) (h : List Item) (r : List ℕ) (k : ℕ) : Type 0 where
   pub given : List ℕ
   pub last : last_stored (number_of r) h ≡ some given
-  pub same : r ≡ with_esn (row_esn_of (row_of (row_slot_at G k))) given
+  pub same : r ≡ shown given (row_of (row_slot_at G k))
 
 -- each held or open entry is so, under the row that it lies under
 unfoldable pub AllLast : Office → Type 0

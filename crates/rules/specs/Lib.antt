@@ -11,6 +11,5 @@ pub mod History
 pub mod Cases
 pub mod Demands
 pub mod Answered
-pub mod Zones
 pub mod Circle
 pub mod Converts

@@ -1,25 +1,19 @@
--- 01, "Guide row", and code C of 2026-05, "A county renumbers an emergency zone": a row's answer, and what 0 does.
+-- 01, "Guide row": its answer, and what 0 does.
 -- Assumes nothing.
-use Rattle.std.specs.Prelude.{ℕ, zero, suc, List, [], ◌∷◌, Bool, false, ◌&&◌, not, cond, eqb, length}
+use Rattle.std.specs.Prelude.{ℕ, List, [], ◌∷◌, Bool, false, ◌&&◌, not, cond, eqb, length}
 use Rattle.layout.specs.declared.frame.Header.{Header}
-use Rattle.layout.specs.Fields.{row_esn_of, row_function_of}
+use Rattle.layout.specs.Fields.{row_function_of}
 use Rattle.rules.specs.declared.RowCode.{RowCode}
-use Rattle.rules.specs.declared.RowCode.TheVariants.{Insert, Delete, Change, NoCode}
+use Rattle.rules.specs.declared.RowCode.TheVariants.{Insert, Delete, NoCode}
 use Rattle.rules.specs.declared.Found.{Found}
-use Rattle.rules.specs.Walks.{find, count, first, is_nothing, on_found}
-use Rattle.rules.specs.Slots.{slots, slot_at, with_slot, state_of, record_of, rezoned, is_used, is_live}
-use Rattle.rules.specs.Slots.{row_slots, row_slot_at, with_row_slot, is_present, is_vacant, row_of, row_slot_of, free_row_slot, row_rezoned}
-use Rattle.rules.specs.Covers.{covers, clash, same_range, same_row}
+use Rattle.rules.specs.Walks.{find, first, is_nothing, on_found}
+use Rattle.rules.specs.Slots.{slots, slot_at, state_of, record_of, is_live, row_slots, row_slot_at, with_row_slot, is_present, is_vacant, row_of, row_slot_of, free_row_slot}
+use Rattle.rules.specs.Covers.{covers, clash, same_row}
 
 -- the code of a row of 200 bytes; one of good form has it
 unfoldable pub row_code_of : List ℕ → RowCode
 row_code_of g =
-    cond (eqb (length g) 200)
-    (cond (eqb (row_function_of g) 73) Insert
-    (cond (eqb (row_function_of g) 68) Delete
-    (cond (eqb (row_function_of g) 67) Change
-    NoCode)))
-    NoCode
+    cond (eqb (length g) 200) (cond (eqb (row_function_of g) 73) Insert (cond (eqb (row_function_of g) 68) Delete NoCode)) NoCode
 
 -- ---- what is looked for
 
@@ -62,24 +56,7 @@ find_entry g R = find (entry_under g R) (slots R)
 abbrev pub has_entry : List ℕ → List ℕ → Found → Bool
 has_entry R G m = on_found m false (λ k. not (is_nothing (find_entry (row_of (row_slot_at G k)) R)))
 
--- a row with "the same street fields, Low, High and parity"
-abbrev pub is_range_by : List ℕ → List ℕ → Bool
-is_range_by g s = is_present s && same_range (row_of s) g
-
-unfoldable pub range_at : List ℕ → List ℕ → ℕ → Bool
-range_at g G k = is_range_by g (row_slot_at G k)
-
-unfoldable pub find_range : List ℕ → List ℕ → Found
-find_range g G = find (range_at g G) (row_slots G)
-
--- "every used register slot that it covers, resting ones included"
-abbrev pub is_used_under : List ℕ → List ℕ → Bool
-is_used_under g s = is_used (state_of s) && covers g (record_of s)
-
-unfoldable pub used_under : List ℕ → List ℕ → ℕ → Bool
-used_under g R i = is_used_under g (slot_at R i)
-
--- ---- the three tables
+-- ---- the two tables
 
 -- I, on the row c that clashes with it and the free slot p
 abbrev pub insert_table : Found → Found → List (Bool × ℕ)
@@ -95,60 +72,25 @@ delete_table R G m =
     ∷ (has_entry R G m, 24)  -- "24 if a held or open entry is covered by the lowest such row"
     ∷ []
 
--- C, on the row m of the same range
-abbrev pub change_table : Found → List (Bool × ℕ)
-change_table m = (is_nothing m, 23) ∷ []  -- "23 if no such row, ESN not compared"
-
 abbrev pub row_answer_of : List ℕ → List ℕ → List ℕ → RowCode → ℕ
 row_answer_of R G g Insert = first (insert_table (find_clash g G) (find_vacant G))
 row_answer_of R G g Delete = first (delete_table R G (find_same g G))
-row_answer_of R G g Change = first (change_table (find_range g G))
 row_answer_of R G g NoCode = 23
 
--- ---- what 0 does
-
--- "stored in the lowest"; "that slot becomes all zero"; "the lowest row .. gets the new ESN"
+-- "stored in the lowest"; "that slot becomes all zero"
 abbrev pub guide_after : List ℕ → List ℕ → RowCode → List ℕ
 guide_after G g Insert = on_found (find_vacant G) G (λ k. with_row_slot G k (row_slot_of g))
 guide_after G g Delete = on_found (find_same g G) G (λ k. with_row_slot G k free_row_slot)
-guide_after G g Change = on_found (find_range g G) G (λ k. with_row_slot G k (row_rezoned (row_esn_of g) (row_slot_at G k)))
 guide_after G g NoCode = G
 
--- the register with the ESN e in those of its first i slots that are used and lie under the row g
-unfoldable pub rezoned_to : List ℕ → List ℕ → List ℕ → ℕ → List ℕ
-rezoned_to g e R zero = R
-rezoned_to g e R (suc i) =
-    cond (used_under g R i) (with_slot (rezoned_to g e R i) i (rezoned e (slot_at R i))) (rezoned_to g e R i)
-
--- a C gives the new ESN to "every used register slot that it covers"; no other code writes the register
-abbrev pub register_by : List ℕ → List ℕ → List ℕ → RowCode → List ℕ
-register_by R G g Insert = R
-register_by R G g Delete = R
-register_by R G g Change = on_found (find_range g G) R (λ k. rezoned_to (row_of (row_slot_at G k)) (row_esn_of g) R (slots R))
-register_by R G g NoCode = R
-
--- "the covered slots" of a row: a C that finds its row has some
-abbrev pub covered_by : List ℕ → List ℕ → List ℕ → RowCode → ℕ
-covered_by R G g Insert = 0
-covered_by R G g Delete = 0
-covered_by R G g Change = on_found (find_range g G) 0 (λ k. count (used_under (row_of (row_slot_at G k)) R) (slots R))
-covered_by R G g NoCode = 0
-
-unfoldable pub row_covers : List ℕ → List ℕ → List ℕ → ℕ
-row_covers R G g = covered_by R G g (row_code_of g)
-
--- ---- the step
+-- ---- the step; a row leaves the register as it is
 
 pub record RowStep : Type 0 where
   pub answer : ℕ
-  pub register : List ℕ
   pub guide : List ℕ
 
-unfoldable pub row_step : List ℕ → List ℕ → List ℕ → RowCode → RowStep
-row_step R G g c =
-    cond (eqb (row_answer_of R G g c) 0)
-    (record { answer = 0; register = register_by R G g c; guide = guide_after G g c })
-    (record { answer = row_answer_of R G g c; register = R; guide = G })
-
 unfoldable pub row_applied : List ℕ → List ℕ → Header → List ℕ → RowStep
-row_applied R G h g = row_step R G g (row_code_of g)
+row_applied R G h g =
+    cond (eqb (row_answer_of R G g (row_code_of g)) 0)
+    (record { answer = 0; guide = guide_after G g (row_code_of g) })
+    (record { answer = row_answer_of R G g (row_code_of g); guide = G })

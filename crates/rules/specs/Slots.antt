@@ -1,12 +1,12 @@
 -- 01, "Register slot" and "Guide slot": the stores, their slots, and when a slot is sound.
 -- Assumes nothing.
-use Rattle.std.specs.Prelude.{ℕ, ◌+◌, ◌*◌, ◌/◌, ◌%◌, List, [], ◌∷◌, ◌++◌, Bool, false, ◌&&◌, ◌||◌, not, cond, leb, eqb, length, take, drop, get_or, replicate}
+use Rattle.std.specs.Prelude.{ℕ, ◌*◌, ◌/◌, ◌%◌, List, [], ◌∷◌, ◌++◌, Bool, false, ◌&&◌, ◌||◌, not, cond, leb, eqb, length, take, drop, get_or, replicate}
 use Rattle.text.specs.Text.{part, all_equal, put_at}
 use Rattle.calendar.specs.declared.Day.{Day}
 use Rattle.calendar.specs.declared.Reading.{Reading}
 use Rattle.calendar.specs.declared.Reading.TheVariants.{Present}
 use Rattle.calendar.specs.Calendar.{stored_day, day_bytes, is_before, on_calendar, on_day}
-use Rattle.layout.specs.Tables.{data_record, guide_row, start_of, size_of, esn, row_esn}
+use Rattle.layout.specs.Tables.{data_record, guide_row}
 use Rattle.layout.specs.Fields.{function_of, has_esn, date_by, row_function_of}
 use Rattle.layout.specs.Rules.{record_fault, row_fault}
 use Rattle.rules.specs.Walks.{find, is_nothing}
@@ -85,10 +85,6 @@ restated b d s = put_at 0 (slot_head b d) s
 
 unfoldable pub written : ℕ → Day → List ℕ → List ℕ → List ℕ
 written b d r s = put_at 8 r (restated b d s)
-
--- 2026-05: the slot with another ESN in its record, "no other byte .. changes"
-unfoldable pub rezoned : List ℕ → List ℕ → List ℕ
-rezoned e s = put_at (8 + start_of data_record esn) (part 0 (size_of data_record esn) e) s
 
 -- "A free slot is all zero"
 unfoldable pub is_zero : List ℕ → Bool
@@ -186,10 +182,6 @@ free_row_slot = replicate row_slot_size 0
 -- the slot with another row
 unfoldable pub row_written : List ℕ → List ℕ → List ℕ
 row_written g s = put_at 8 g (put_at 0 row_head s)
-
--- 2026-05: the slot with another ESN in its row, "no other byte .. changes"
-unfoldable pub row_rezoned : List ℕ → List ℕ → List ℕ
-row_rezoned e s = put_at (8 + start_of guide_row row_esn) (part 0 (size_of guide_row row_esn) e) s
 
 -- "the row, of good form with code I. A free one is all zero"
 unfoldable pub present_sound : List ℕ → Bool

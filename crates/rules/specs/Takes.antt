@@ -21,7 +21,7 @@ use Rattle.rules.specs.declared.Taken.{Taken}
 use Rattle.rules.specs.Walks.{find, on_found}
 use Rattle.rules.specs.Slots.{register_sound, guide_sound}
 use Rattle.rules.specs.Records.{applied}
-use Rattle.rules.specs.Rows.{row_covers, row_applied}
+use Rattle.rules.specs.Rows.{row_applied}
 
 -- ---- the lines of a file
 
@@ -122,7 +122,7 @@ pub record Answered : Type 0 where
   pub answer : ℕ
   pub stores : Stores
 
--- a data record writes the register, a guide row the guide and, by 2026-05, "the register too"
+-- a data record writes the register, a guide row the guide
 unfoldable pub line_applied : Kind → Header → List ℕ → Stores → Answered
 line_applied (Data v) h r s =
     record {
@@ -132,16 +132,8 @@ line_applied (Data v) h r s =
 line_applied Guide h g s =
     record {
       answer = (row_applied s.register s.guide h g).answer;
-      stores = record {
-        register = (row_applied s.register s.guide h g).register;
-        guide = (row_applied s.register s.guide h g).guide;
-      };
+      stores = record { register = s.register; guide = (row_applied s.register s.guide h g).guide };
     }
-
--- the covered slots of a line: only a row has any
-unfoldable pub line_covers : Kind → List ℕ → Stores → ℕ
-line_covers (Data v) r s = 0
-line_covers Guide g s = row_covers s.register s.guide g
 
 -- the stores after the first i lines
 unfoldable pub after : Kind → Header → List ℕ → Stores → ℕ → Stores
@@ -156,11 +148,6 @@ answer_at k h f s i = (line_applied k h (line_at k f i) (after k h f s i)).answe
 unfoldable pub answers_to : Kind → Header → List ℕ → Stores → ℕ → List ℕ
 answers_to k h f s zero = []
 answers_to k h f s (suc i) = answers_to k h f s i ++ (answer_at k h f s i ∷ [])
-
--- "the covered slots of its C rows, added up": those of the first i lines
-unfoldable pub covered_to : Kind → Header → List ℕ → Stores → ℕ → ℕ
-covered_to k h f s zero = 0
-covered_to k h f s (suc i) = covered_to k h f s i + line_covers k (line_at k f i) (after k h f s i)
 
 -- ---- what a take returns and leaves
 
@@ -190,14 +177,12 @@ refused_file r s answers last =
         done = 0;
         undone = 0;
         last = last;
-        covered = 0;
       };
       stores = s;
       answers = answers;
     }
 
--- "answer byte i is written, bytes past n stay. Returned: n, how many answers are 0, how many not, the new last cycle"; 2026-05: a guide
--- file "reports the covered slots of its C rows, added up"
+-- "answer byte i is written, bytes past n stay. Returned: n, how many answers are 0, how many not, the new last cycle"
 unfoldable pub applied_file : Kind → Header → Stores → List ℕ → List ℕ → Outcome
 applied_file k h s f answers =
     record {
@@ -209,7 +194,6 @@ applied_file k h s f answers =
         done = zeros_in (answers_to k h f s (lines_in k f));
         undone = others_in (answers_to k h f s (lines_in k f));
         last = h.cycle.0;
-        covered = covered_to k h f s (lines_in k f);
       };
       stores = after k h f s (lines_in k f);
       answers = answers_to k h f s (lines_in k f) ++ drop (lines_in k f) answers;
@@ -232,9 +216,8 @@ TakesData v R G f answers last result register answered =
     × ((register ≡ (taken (Data v) (record { register = R; guide = G }) f answers last).stores.register)
     × (answered ≡ (taken (Data v) (record { register = R; guide = G }) f answers last).answers))
 
-abbrev pub TakesGuide : List ℕ → List ℕ → List ℕ → List ℕ → ℕ → Taken → List ℕ → List ℕ → List ℕ → Type 0
-TakesGuide R G f answers last result register guide answered =
+abbrev pub TakesGuide : List ℕ → List ℕ → List ℕ → List ℕ → ℕ → Taken → List ℕ → List ℕ → Type 0
+TakesGuide R G f answers last result guide answered =
     (result ≡ (taken Guide (record { register = R; guide = G }) f answers last).result)
-    × ((register ≡ (taken Guide (record { register = R; guide = G }) f answers last).stores.register)
     × ((guide ≡ (taken Guide (record { register = R; guide = G }) f answers last).stores.guide)
-    × (answered ≡ (taken Guide (record { register = R; guide = G }) f answers last).answers)))
+    × (answered ≡ (taken Guide (record { register = R; guide = G }) f answers last).answers))

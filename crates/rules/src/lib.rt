@@ -37,7 +37,6 @@ pub enum Filed {
 pub enum RowCode {
     Insert,
     Delete,
-    Change,
     NoCode,
 }
 
@@ -70,7 +69,7 @@ pub enum Checked {
     Refused(Refusal),
 }
 
-// What a take returns; `covered` counts the used slots under the rows that a guide file renumbered.
+// What a take returns.
 #[repr(C)]
 #[derive(Drop)]
 pub struct Taken {
@@ -81,7 +80,6 @@ pub struct Taken {
     pub done: u32,
     pub undone: u32,
     pub last: u32,
-    pub covered: u32,
 }
 
 // What a lookup answers; state and slot are 0 for an absent number, all but the refusal are 0 in a refusal.

@@ -46,13 +46,7 @@ fn taken(
             last,
         );
     }
-    take::apply_guide(
-        &mut register[..],
-        &mut guide[..],
-        file,
-        &mut answers[..],
-        last,
-    )
+    take::apply_guide(&register[..], &mut guide[..], file, &mut answers[..], last)
 }
 
 fn returned(t: Taken) {
@@ -63,7 +57,6 @@ fn returned(t: Taken) {
     write::number(b" done=", t.done);
     write::number(b" undone=", t.undone);
     write::number(b" last=", t.last);
-    write::number(b" covered=", t.covered);
 }
 
 // A line's call with its parts: what it returned, and what each part holds then.

@@ -20,7 +20,7 @@ fn each(input: &[u8]) {
 
 fn main() {
     // More than the file stdin has.
-    let mut input = [0u8; 458752];
+    let mut input = [0u8; 393216];
     let n = io::read_full(0, &mut input);
     each(&input[..n]);
 }

@@ -1,11 +1,10 @@
--- The turns of the loops over the lines of a file, those that check and those that apply; the sum of the covered slots, and the bound
--- that a good file gives on its lines.
+-- The turns of the loops over the lines of a file, those that check and those that apply; what a good file gives them, the bound on
+-- its lines, and what is returned at the end.
 -- Assumes nothing.
 use mathlib.Core.Path.{◌≡◌, ◌∙◌, refl, sym, ap}
 use mathlib.Core.Bool.{true, false, ◌&&◌, cond}
 use mathlib.Core.List.{List, [], ◌∷◌, ◌++◌, append_assoc}
 use Prim.Native.Nat.{ℕ, suc, ◌+◌, ◌-◌, ◌%◌, ◌≤◌, ◌<◌}
-use native.Mathlib.Nat.{mul-le-mul_right}
 use native.Mathlib.Numerals.{add-one}
 use native.Mathlib.Omega.{arith}
 use lib.Dec.{eqb, leb}
@@ -14,15 +13,11 @@ use lib.Seq.{drop-cons, set_at}
 use borrow.Author.Tests.{eq-eqb, ne_eqb, leb-true}
 use Rattle.layout.specs.declared.frame.Header.{Header}
 use Rattle.rules.specs.declared.Kind.{Kind}
-use Rattle.rules.specs.declared.Kind.TheVariants.{Guide}
 use Rattle.rules.specs.declared.Checked.TheVariants.{Good, Refused}
-use Rattle.rules.specs.Slots.{slots}
-use Rattle.rules.specs.Rows.{row_covers}
-use Rattle.rules.specs.Takes.{Stores, line_at, line_fault, lines_in, bad_line, lines_checked, line_applied, line_covers, after, answer_at, answers_to, covered_to, zeros_in, shape_of, edges, good_file}
+use Rattle.rules.specs.Takes.{Stores, line_at, line_fault, lines_in, bad_line, lines_checked, line_applied, after, answer_at, answers_to, zeros_in, others_in, shape_of, edges, good_file, applied_file}
 use Rattle.rules.proofs.WalkLaws.{Passed, find_hit, at_most_one}
 use Rattle.text.proofs.Laws.{and_right}
-use Rattle.rules.proofs.TakeLaws.{answers_length, zeros_more}
-use Rattle.rules.proofs.CoveredLaws.{covered_le}
+use Rattle.rules.proofs.TakeLaws.{answers_length, zeros_more, zeros_others}
 
 -- ---- the checks: v is the fault of line i
 
@@ -36,8 +31,7 @@ module _ (k : Kind) (f : List ℕ) (n i v : ℕ) (e : v ≡ line_fault k (line_a
   unfolding lines_checked bad_line
   lines_bad h l p t z = rw (← l, find_hit (bad_line k f) n i p.nothing (rw (← e, ne_eqb v 0 z)) t, e)
 
-pub lines_good : (k : Kind) (f : List ℕ) (n i : ℕ) (h : Header) → n ≡ lines_in k f → Passed (bad_line k f) n i → n ≤ i
-    → Good h ≡ lines_checked k f h
+pub lines_good : (k : Kind) (f : List ℕ) (n i : ℕ) (h : Header) → n ≡ lines_in k f → Passed (bad_line k f) n i → n ≤ i → Good h ≡ lines_checked k f h
 unfolding lines_checked
 lines_good k f n i h l p t = let e : i ≡ n = omega (arith, p.within) in rw (← l, ← e, p.nothing)
 
@@ -49,13 +43,7 @@ count_zero done a m z e = rw (eq-eqb a 0 z) e
 pub count_other : (done a m : ℕ) → (a ≡ 0 → ⊥) → m ≡ done → m ≡ done + cond (eqb a 0) 1 0
 count_other done a m z e = rw (ne_eqb a 0 z) (omega arith)
 
-pub same_stores : {R S G H : List ℕ} → R ≡ S → G ≡ H
-    → ◌≡◌ {A = Stores} (record { register = R; guide = G }) (record { register = S; guide = H })
-same_stores p q = rw (p, q)
-
--- the stores s became t, and the old answers these, of which done are 0
-pub record Turned (k : Kind) (h : Header) (f : List ℕ) (s : Stores) (old : List ℕ) (n : ℕ) (t : Stores) (answers : List ℕ) (done i : ℕ)
-    : Type 0 where
+pub record Turned (k : Kind) (h : Header) (f : List ℕ) (s : Stores) (old : List ℕ) (n : ℕ) (t : Stores) (answers : List ℕ) (done i : ℕ) : Type 0 where
   pub within : i ≤ n
   pub room : n ≤ length old
   pub stores : t ≡ after k h f s i
@@ -63,67 +51,43 @@ pub record Turned (k : Kind) (h : Header) (f : List ℕ) (s : Stores) (old : Lis
   pub counted : done ≡ zeros_in (answers_to k h f s i)
   pub few : done ≤ i
 
-pub turned_none : (k : Kind) (h : Header) (f : List ℕ) (s : Stores) (old : List ℕ) (n : ℕ) → n ≤ length old → Turned k h f s old n s old 0 0
-unfolding after answers_to zeros_in
-turned_none k h f s old n r =
-    record { within = omega arith; room = r; stores = refl; answered = refl; counted = refl; few = omega arith }
+module _ (k : Kind) (h : Header) (f : List ℕ) (s : Stores) (old : List ℕ) (n : ℕ) where
+  pub turned_none : n ≤ length old → Turned k h f s old n s old 0 0
+  unfolding after answers_to zeros_in
+  turned_none r = record { within = omega arith; room = r; stores = refl; answered = refl; counted = refl; few = omega arith }
 
-module _ {k : Kind} {h : Header} {f : List ℕ} {s : Stores} {old : List ℕ} {n : ℕ} {t : Stores} {answers : List ℕ} {done i : ℕ}
-    (u : Turned k h f s old n t answers done i) where
-  pub turned_length : length answers ≡ length old
-  turned_length =
-      ap length u.answered
-      ∙ simp (length-append, length-drop, answers_length) (omega (arith, u.within, u.room))
+  module _ (t : Stores) (answers : List ℕ) (done i : ℕ) (u : Turned k h f s old n t answers done i) where
+    pub turned_length : length answers ≡ length old
+    turned_length =
+        ap length u.answered
+        ∙ simp (length-append, length-drop, answers_length) (omega (arith, u.within, u.room))
 
-  -- a is the answer to line i, t' the stores after it, m the zeros
-  pub turned_more : (a m : ℕ) (t' : Stores) → i < n → a ≡ (line_applied k h (line_at k f i) t).answer
-      → t' ≡ (line_applied k h (line_at k f i) t).stores → m ≡ done + cond (eqb a 0) 1 0
-      → Turned k h f s old n t' (set answers i a) m (i + 1)
-  unfolding after answers_to answer_at
-  turned_more a m t' l p q c =
-      let g : a ≡ answer_at k h f s i = p ∙ ap (λ (x : Stores). (line_applied k h (line_at k f i) x).answer) u.stores in
-      let b : i < length old = omega (arith, u.room) in
-      record {
-        within = omega arith;
-        room = u.room;
-        stores = rw (add-one i) (q ∙ ap (λ (x : Stores). (line_applied k h (line_at k f i) x).stores) u.stores);
-        answered =
-            ap (λ (x : List ℕ). set x i a) (u.answered ∙ ap (λ (x : List ℕ). answers_to k h f s i ++ x) (drop-cons old i 0 b))
-            ∙ set_at (answers_to k h f s i) (get_or old i 0) (drop (suc i) old) a i (answers_length k h f s i)
-            ∙ sym (append_assoc (answers_to k h f s i) (a ∷ []) (drop (suc i) old))
-            ∙ rw (add-one i, g);
-        counted = rw (add-one i) (c ∙ rw (u.counted, g) (sym (zeros_more (answers_to k h f s i) (answer_at k h f s i))));
-        few = omega (arith, at_most_one (eqb a 0), u.few);
-      }
+    -- a is the answer to line i, t' the stores after it, m the zeros
+    pub turned_more : (a m : ℕ) (t' : Stores) → i < n → a ≡ (line_applied k h (line_at k f i) t).answer
+        → t' ≡ (line_applied k h (line_at k f i) t).stores → m ≡ done + cond (eqb a 0) 1 0
+        → Turned k h f s old n t' (set answers i a) m (i + 1)
+    unfolding after answers_to answer_at
+    turned_more a m t' l p q c =
+        let g : a ≡ answer_at k h f s i = p ∙ ap (λ (x : Stores). (line_applied k h (line_at k f i) x).answer) u.stores in
+        let b : i < length old = omega (arith, u.room) in
+        record {
+          within = omega arith;
+          room = u.room;
+          stores = rw (add-one i) (q ∙ ap (λ (x : Stores). (line_applied k h (line_at k f i) x).stores) u.stores);
+          answered =
+              ap (λ (x : List ℕ). set x i a) (u.answered ∙ ap (λ (x : List ℕ). answers_to k h f s i ++ x) (drop-cons old i 0 b))
+              ∙ set_at (answers_to k h f s i) (get_or old i 0) (drop (suc i) old) a i (answers_length k h f s i)
+              ∙ sym (append_assoc (answers_to k h f s i) (a ∷ []) (drop (suc i) old))
+              ∙ rw (add-one i, g);
+          counted = rw (add-one i) (c ∙ rw (u.counted, g) (sym (zeros_more (answers_to k h f s i) (answer_at k h f s i))));
+          few = omega (arith, at_most_one (eqb a 0), u.few);
+        }
 
-  -- all lines
-  pub turned_all : n ≤ i → (done ≡ zeros_in (answers_to k h f s n)) × ((t ≡ after k h f s n) × (answers ≡ answers_to k h f s n ++ drop n old))
-  turned_all l =
-      let e : i ≡ n = omega (arith, u.within) in
-      rw (← e) (u.counted, (u.stores, u.answered))
-
--- ---- the covered slots of the rows, added up: after i rows they are c
-
-module _ {h : Header} {f : List ℕ} {s : Stores} {old : List ℕ} {n : ℕ} {t : Stores} {answers : List ℕ} {done i : ℕ}
-    (u : Turned Guide h f s old n t answers done i) {c : ℕ} (p : c ≡ covered_to Guide h f s i) where
-  -- row i covers x
-  module _ {x : ℕ} (q : x ≡ row_covers t.register t.guide (line_at Guide f i)) where
-    pub summed_more : c + x ≡ covered_to Guide h f s (i + 1)
-    unfolding covered_to line_covers
-    summed_more = rw (add-one i, p, q, u.stores)
-
-    -- at most all slots for each row: the sum fits in 32 bits
-    pub summed_fits : i < n → n ≤ 9999 → slots s.register ≤ 4096 → c + x < 4294967296
-    summed_fits l m few =
-        let w : ℕ = slots s.register in
-        let b : i + 1 ≤ 9999 = omega arith in
-        omega (arith, summed_more, covered_le Guide h f s (i + 1), mul-le-mul_right w b)
-
-  -- all rows
-  pub summed_all : n ≤ i → c ≡ covered_to Guide h f s n
-  summed_all l =
-      let e : i ≡ n = omega (arith, u.within) in
-      rw (← e) p
+    -- all lines
+    pub turned_all : n ≤ i → (done ≡ zeros_in (answers_to k h f s n)) × ((t ≡ after k h f s n) × (answers ≡ answers_to k h f s n ++ drop n old))
+    turned_all l =
+        let e : i ≡ n = omega (arith, u.within) in
+        rw (← e) (u.counted, (u.stores, u.answered))
 
 -- ---- what a good file gives the loop
 
@@ -133,3 +97,14 @@ good_lines k f e =
     leb-true (lines_in k f) 9999
     (and_right (eqb ((length f - edges k) % (shape_of k).line) 0) (leb (lines_in k f) 9999)
     (and_right (leb (edges k) (length f)) (eqb ((length f - edges k) % (shape_of k).line) 0 && leb (lines_in k f) 9999) e))
+
+-- what is returned of an applied file
+pub applied_is : (k : Kind) (h : Header) (s : Stores) (f answers : List ℕ) (n done : ℕ) → n ≡ lines_in k f → done ≡ zeros_in (answers_to k h f s n)
+    → record { refusal = 0; place = 0; position = 0; records = n; done = done; undone = n - done; last = h.cycle.0 }
+    ≡ (applied_file k h s f answers).result
+unfolding applied_file
+applied_is k h s f answers n done e d =
+    let l = zeros_others (answers_to k h f s n) in
+    let m = answers_length k h f s n in
+    let u : n - done ≡ others_in (answers_to k h f s n) = omega arith in
+    rw (← e, ← d, ← u)

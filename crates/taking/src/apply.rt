@@ -1,12 +1,10 @@
 // The lines of a checked file, applied one after the other to what the earlier ones left.
 ghost use Rattle.std.specs.Prelude.{◌≡◌, ◌≤◌, length, drop, ◌++◌};
 ghost use Rattle.rules.specs.declared.Kind.TheVariants.{Data, Guide};
-ghost use Rattle.rules.specs.Slots.{slots};
-ghost use Rattle.rules.specs.Takes.{line_applied, after, answers_to, covered_to, zeros_in};
+ghost use Rattle.rules.specs.Takes.{line_applied, after, answers_to, zeros_in};
 
 use crate::checks;
 use layout::frame::Header;
-use layout::place;
 use rules::Kind;
 use versions::Version;
 
@@ -17,8 +15,7 @@ fn apply_line(version: Version, register: &mut [u8], guide: &[u8], h: Header, li
 {
     match version {
         Version::One => {
-            let mut wide = [b' '; place::RECORD_SIZE];
-            versions::widen(line, &mut wide);
+            let wide = versions::widened(line);
             data_step::apply_record(&mut register[..], guide, h, &wide)
         }
         Version::Two => data_step::apply_record(&mut register[..], guide, h, line),
@@ -59,45 +56,34 @@ pub fn apply_records(
     done
 }
 
-// What the rows of a guide file add up to: how many answers are 0, and the covered slots.
-#[derive(Drop)]
-pub struct Sums {
-    pub done: u32,
-    pub covered: u32,
-}
-
-// The same for the rows of a guide file, which write the register too.
+// The same for the rows of a guide file.
 pub fn apply_rows(
-    register: &mut [u8],
+    register: &[u8],
     guide: &mut [u8],
     file: &[u8],
     answers: &mut [u8],
     h: Header,
     n: usize,
-) -> Sums
-    requires { (n ≤ 9999) × ((n ≤ length answers.old) × (slots register.old ≤ 4096)) }
-    ensures { (result.done ≤ n) × ((result.done ≡ zeros_in (answers_to Guide h file.now (record { register = register.entry.now; guide = guide.old }) n))
-        × ((result.covered ≡ covered_to Guide h file.now (record { register = register.entry.now; guide = guide.old }) n)
-        × ((register.exit.now ≡ (after Guide h file.now (record { register = register.entry.now; guide = guide.old }) n).register)
+) -> u32
+    requires { (n ≤ 9999) × (n ≤ length answers.old) }
+    ensures { (result ≤ n) × ((result ≡ zeros_in (answers_to Guide h file.now (record { register = register.entry.now; guide = guide.old }) n))
         × ((guide.new ≡ (after Guide h file.now (record { register = register.entry.now; guide = guide.old }) n).guide)
-        × (answers.new ≡ answers_to Guide h file.now (record { register = register.entry.now; guide = guide.old }) n ++ drop n answers.old))))) }
+        × (answers.new ≡ answers_to Guide h file.now (record { register = register.entry.now; guide = guide.old }) n ++ drop n answers.old))) }
 {
     let mut done: u32 = 0;
-    let mut covered: u32 = 0;
     let mut i: usize = 0;
     while i < n {
-        let row = row_step::apply_row(
-            &mut register[..],
+        let answer = row_step::apply_row(
+            register,
             &mut guide[..],
             h,
             checks::line_at(Kind::Guide, file, i),
         );
-        answers[i] = row.answer;
-        covered += row.covered as u32;
-        if row.answer == 0 {
+        answers[i] = answer;
+        if answer == 0 {
             done += 1;
         }
         i += 1;
     }
-    Sums { done, covered }
+    done
 }

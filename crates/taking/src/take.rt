@@ -12,7 +12,7 @@ use versions::Version;
 
 // What a refused file returns.
 fn refused(r: Refusal, last: u32) -> Taken
-    ensures { result ≡ record { refusal = r.number; place = r.place; position = r.position; records = 0; done = 0; undone = 0; last = last; covered = 0 } }
+    ensures { result ≡ record { refusal = r.number; place = r.place; position = r.position; records = 0; done = 0; undone = 0; last = last } }
 {
     Taken {
         refusal: r.number,
@@ -22,14 +22,13 @@ fn refused(r: Refusal, last: u32) -> Taken
         done: 0,
         undone: 0,
         last,
-        covered: 0,
     }
 }
 
 // What a file returns that was checked and is good: nothing is done, and the last cycle is as given.
 fn passed(n: usize, last: u32) -> Taken
     requires { n ≤ 9999 }
-    ensures { result ≡ record { refusal = 0; place = 0; position = 0; records = n; done = 0; undone = 0; last = last; covered = 0 } }
+    ensures { result ≡ record { refusal = 0; place = 0; position = 0; records = n; done = 0; undone = 0; last = last } }
 {
     Taken {
         refusal: refusing::NONE,
@@ -39,14 +38,13 @@ fn passed(n: usize, last: u32) -> Taken
         done: 0,
         undone: 0,
         last,
-        covered: 0,
     }
 }
 
 // What an applied file returns.
-fn applied(h: Header, n: usize, done: u32, covered: u32) -> Taken
+fn applied(h: Header, n: usize, done: u32) -> Taken
     requires { (n ≤ 9999) × (done ≤ n) }
-    ensures { result ≡ record { refusal = 0; place = 0; position = 0; records = n; done = done; undone = n - done; last = h.cycle.0; covered = covered } }
+    ensures { result ≡ record { refusal = 0; place = 0; position = 0; records = n; done = done; undone = n - done; last = h.cycle.0 } }
 {
     let cycle = h.cycle;
     let records = n as u32;
@@ -58,7 +56,6 @@ fn applied(h: Header, n: usize, done: u32, covered: u32) -> Taken
         done,
         undone: records - done,
         last: cycle.number(),
-        covered,
     }
 }
 
@@ -128,25 +125,25 @@ pub fn apply_data(
                 h,
                 n,
             );
-            applied(h, n, done, 0)
+            applied(h, n, done)
         }
     }
 }
 
-// Applies a guide file: register, guide and answers are written.
+// Applies a guide file: the register is read, the guide and the answers are written.
 pub fn apply_guide(
-    register: &mut [u8],
+    register: &[u8],
     guide: &mut [u8],
     file: &[u8],
     answers: &mut [u8],
     last: u32,
 ) -> Taken
-    ensures { TakesGuide register.old guide.old file.now answers.old last result register.new guide.new answers.new }
+    ensures { TakesGuide register.now guide.old file.now answers.old last result guide.new answers.new }
 {
     let room = answers.len();
     let checked = checks::check_file(
         Kind::Guide,
-        &register[..],
+        register,
         &guide[..],
         file,
         room,
@@ -156,15 +153,8 @@ pub fn apply_guide(
         Checked::Refused(r) => refused(r, last),
         Checked::Good(h) => {
             let n = checks::lines_in(Kind::Guide, file);
-            let sums = apply::apply_rows(
-                &mut register[..],
-                &mut guide[..],
-                file,
-                &mut answers[..],
-                h,
-                n,
-            );
-            applied(h, n, sums.done, sums.covered)
+            let done = apply::apply_rows(register, &mut guide[..], file, &mut answers[..], h, n);
+            applied(h, n, done)
         }
     }
 }

@@ -1,7 +1,6 @@
 -- A record that is written field by field: each field of a table starts where those before it end (`begins`), so that field k of what is
 -- written is what was written k-th, blanks behind. Widened and narrowed records are written so, by one table each, and every law of their
--- bytes is one of these, cited for both; so is that the code's rows of numbers write them (moved_all). What the tables themselves are asked
--- is computed (`all_to`) and read off by k (all_to_lem).
+-- bytes is one of these, cited for both. What the tables themselves are asked is computed (`all_to`) and read off by k (all_to_lem).
 -- Assumes nothing.
 use mathlib.Core.Path.{◌≡◌, refl, sym, ap, ◌∙◌}
 use mathlib.Core.Bool.{Bool, true, false, ◌&&◌, ◌||◌}
@@ -10,6 +9,7 @@ use Prim.Native.Nat.{ℕ, zero, suc, ◌+◌, ◌-◌, ◌≤◌, ◌<◌}
 use native.Mathlib.Omega.{arith}
 use native.Mathlib.Decide.{dec_lt}
 use native.Mathlib.Nat.{sub-zero}
+use native.Mathlib.Numerals.{add-one}
 use lib.Dec.{ltb, eqb}
 use lib.ListN.{length, take, drop, get_or, length-append, length-take, length-replicate, replicate-append-replicate}
 use lib.Seq.{take_at, drop_at, take-add}
@@ -19,8 +19,8 @@ use Rattle.text.proofs.Laws.{and_left, and_right}
 use Rattle.layout.specs.Tables.{code, first_code, data_record, narrow_record, start_of, size_of, field}
 use Rattle.layout.proofs.LineLaws.{part_long}
 use Rattle.versions.specs.Versions.{fields, rule_of, all_to, end_of, begins, trails, alone, shares_rule, shares}
-use Rattle.versions.specs.Versions.{filled, widen_to, widened, narrow_to, narrowed, moved_to}
-use Rattle.versions.specs.Versions.{data_begins, narrow_begins, data_ends, narrow_ends, same_fields}
+use Rattle.versions.specs.Versions.{filled, widen_to, narrow_to}
+use Rattle.versions.specs.Versions.{data_begins, narrow_begins, data_ends, same_fields}
 
 -- ---- what is computed of a table
 
@@ -43,10 +43,7 @@ in_row f zero j k l = absurd (omega arith)
 in_row f (suc n) j zero l = let e : j ≡ j + 0 = omega arith in ap f e
 in_row f (suc n) j (suc k) l = let e : suc j + k ≡ j + suc k = omega arith in in_row f n (suc j) k (omega arith) ∙ ap f e
 
-abbrev pub row_of : (ℕ → ℕ) → List ℕ
-row_of f = in_row_lem f fields 0
-
-pub number_at : (f : ℕ → ℕ) (k : ℕ) → k < fields → get_or (row_of f) k 0 ≡ f k
+pub number_at : (f : ℕ → ℕ) (k : ℕ) → k < fields → get_or (in_row_lem f fields 0) k 0 ≡ f k
 number_at f k l = let e : 0 + k ≡ k = omega arith in in_row f fields 0 k l ∙ ap f e
 
 -- field k starts where those before it end
@@ -190,22 +187,38 @@ module _ {t : List ℕ} {w y : ℕ → List ℕ} (v : Written t w y) where
       let b : end_of t k + size_of t k ≤ m = omega (arith, end_within t k fields l) in
       rw (v.more k, inv, i) (put_filled (w k) (y k) (end_of t k) (size_of t k) m a (v.fits k l) b)
 
--- ---- the same by rows of numbers, which are those of tables: field after field is put over m blanks
+-- ---- the loop that writes one: the first k fields in m bytes, and blanks
 
-module _ {t : List ℕ} {w : ℕ → List ℕ} (a b : ℕ → ℕ) (r : List ℕ) (v : Written t w (λ k. part (a k) (b k) r))
-    (m : ℕ) (all : end_of t fields ≡ m) where
-  -- the first k fields, and blanks
-  moved_to_lem : (k : ℕ) → k ≤ fields → moved_to (row_of a) (row_of b) (row_of (start_of t)) r m k ≡ w k ++ spaces (m - end_of t k)
-  unfolding moved_to end_of
-  moved_to_lem zero l = rw (v.none, sub-zero) refl
-  moved_to_lem (suc k) l =
-      rw (number_at a k l, number_at b k l, number_at (start_of t) k l) (written_put v k m l all (moved_to_lem k (omega arith)))
+pub record Filling (t : List ℕ) (w : ℕ → List ℕ) (m k : ℕ) (out : List ℕ) : Type 0 where
+  pub within : k ≤ fields
+  pub long : length out ≡ m
+  pub bytes : out ≡ w k ++ spaces (m - end_of t k)
+
+module _ {t : List ℕ} {w y : ℕ → List ℕ} (v : Written t w y) (m : ℕ) (all : end_of t fields ≡ m) where
+  -- none yet: all is blank
+  pub filling_none : Filling t w m 0 (spaces m)
+  unfolding end_of
+  filling_none = record { within = omega arith; long = length-replicate m 32; bytes = rw (v.none, sub-zero) refl }
+
+  -- one field more, put where the table says
+  pub filling_more : (k : ℕ) (out : List ℕ) {i : ℕ} {f new : List ℕ} → Filling t w m k out → k < fields → i ≡ start_of t k → f ≡ y k
+      → new ≡ put_at i f out → Filling t w m (k + 1) new
+  unfolding end_of
+  filling_more k out {new = new} g l p q e =
+      let b : new ≡ w (suc k) ++ spaces (m - end_of t (suc k)) = rw (e, p, q) (written_put v k m l all g.bytes) in
+      let h = end_within t k fields l in
+      record {
+        within = omega arith;
+        long = ap length b ∙ rw (length-append, length-replicate, written_length v (suc k) l) (omega arith);
+        bytes = rw (add-one k) b;
+      }
 
   -- all fields
-  moved_all : moved_to (row_of a) (row_of b) (row_of (start_of t)) r m fields ≡ w fields
-  moved_all =
+  pub filling_all : (k : ℕ) {out : List ℕ} → Filling t w m k out → fields ≤ k → out ≡ w fields
+  filling_all k g l =
+      let z : k ≡ fields = omega (arith, g.within) in
       let n : m - end_of t fields ≡ 0 = omega arith in
-      moved_to_lem fields (omega arith) ∙ rw (n, append-nil) refl
+      g.bytes ∙ rw (z, n, append-nil) refl
 
 -- ---- the two of them
 
@@ -228,13 +241,3 @@ narrow_written r =
       more = λ k. refl;
       fits = λ k l. rw length-take (omega arith);
     }
-
-pub wide_moved : (r : List ℕ)
-    → moved_to (row_of (start_of narrow_record)) (row_of (size_of narrow_record)) (row_of (start_of data_record)) r 512 fields ≡ widened r
-unfolding widened
-wide_moved r = moved_all (start_of narrow_record) (size_of narrow_record) r (wide_written r) 512 data_ends
-
-pub narrow_moved : (r : List ℕ)
-    → moved_to (row_of (start_of data_record)) (row_of (size_of narrow_record)) (row_of (start_of narrow_record)) r 240 fields ≡ narrowed r
-unfolding narrowed
-narrow_moved r = moved_all (start_of data_record) (size_of narrow_record) r (narrow_written r) 240 narrow_ends

@@ -1,7 +1,7 @@
 -- 2026-01: the data record of Version 1 (document 003, Exhibit 1) beside that of Version 2: the same fields in the same order, some
 -- shorter, some of no bytes. A record is widened to Version 2, narrowed to Version 1, and its first fault stays. Assumes nothing.
 use Rattle.std.specs.Prelude.{ℕ, zero, suc, ◌+◌, ◌*◌, ◌-◌, ◌≡◌, refl, List, [], ◌∷◌, ◌++◌, Bool, true, false, ◌&&◌, ◌||◌, not, cond, leb, ltb, eqb, length, get_or}
-use Rattle.text.specs.Text.{member_of, blank, part, put_at, spaces}
+use Rattle.text.specs.Text.{member_of, blank, part, spaces}
 use Rattle.layout.specs.Tables.{free, left_text, named, code, first_code, high_end, parity_letter}
 use Rattle.layout.specs.Tables.{data_record, narrow_record, start_of, size_of, field}
 use Rattle.layout.specs.Fields.{function_of}
@@ -91,12 +91,6 @@ narrow_to r (suc k) = narrow_to r k ++ filled (size_of narrow_record k) (part (s
 
 unfoldable pub narrowed : List ℕ → List ℕ
 narrowed r = narrow_to r fields
-
--- how the code writes either: the first k fields, each read by two rows of numbers and put where a third says, over n blanks
-unfoldable pub moved_to : List ℕ → List ℕ → List ℕ → List ℕ → ℕ → ℕ → List ℕ
-moved_to from lengths to r n zero = spaces n
-moved_to from lengths to r n (suc k) =
-    put_at (get_or to k 0) (part (get_or from k 0) (get_or lengths k 0) r) (moved_to from lengths to r n k)
 
 -- 27: "if a Version 2 field or the tail of a longer field isn't blank": field k has nothing behind the bytes that Version 1 has of it
 unfoldable pub tail_blank : List ℕ → ℕ → Bool

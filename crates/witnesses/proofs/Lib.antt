@@ -3,5 +3,4 @@ pub mod Instances
 pub mod VersionWitness
 pub mod TripWitness
 pub mod ConvertWitness
-pub mod ZoneWitness
 pub mod TagWitness

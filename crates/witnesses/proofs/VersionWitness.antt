@@ -68,11 +68,11 @@ seen =
 
 pub witness : seen
     ≡ (0 ∷ [])  -- the C is taken
-    ∷ (0 ∷ 0 ∷ 0 ∷ 1 ∷ 1 ∷ 0 ∷ 2 ∷ 0 ∷ [])  -- 1 record, done, last cycle 2
+    ∷ (0 ∷ 0 ∷ 0 ∷ 1 ∷ 1 ∷ 0 ∷ 2 ∷ [])  -- 1 record, done, last cycle 2
     ∷ (6 ∷ [])  -- the history has one item more
     ∷ (1 ∷ 67 ∷ 56 ∷ 51 ∷ 32 ∷ 32 ∷ 32 ∷ 32 ∷ 82 ∷ [])  -- held, stored as C under ESN 83; Reserved begins behind the blank TAR
-    ∷ (3 ∷ 0 ∷ 0 ∷ 0 ∷ 0 ∷ 0 ∷ 1 ∷ 0 ∷ [])  -- as Version 2 its length is wrong
-    ∷ (9 ∷ 1 ∷ 1 ∷ 0 ∷ 0 ∷ 0 ∷ 1 ∷ 0 ∷ [])  -- a U is refused by 9 at its first byte
+    ∷ (3 ∷ 0 ∷ 0 ∷ 0 ∷ 0 ∷ 0 ∷ 1 ∷ [])  -- as Version 2 its length is wrong
+    ∷ (9 ∷ 1 ∷ 1 ∷ 0 ∷ 0 ∷ 0 ∷ 1 ∷ [])  -- a U is refused by 9 at its first byte
     ∷ (0 ∷ 560 ∷ 1 ∷ 0 ∷ [])  -- the load file in Version 1 has one entry,
     ∷ (25 ∷ 0 ∷ 0 ∷ 0 ∷ [])  -- is refused where it does not fit,
     ∷ (27 ∷ 0 ∷ 0 ∷ 0 ∷ [])  -- and before that, with slot 0, where the entry does not;

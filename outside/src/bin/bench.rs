@@ -100,7 +100,7 @@ fn data<'a>(
     })
 }
 
-/// Checks or applies of a guide file, each on the stores as they were.
+/// Checks or applies of a guide file, each on the guide as it was.
 fn rows<'a>(
     subject: &'a impl Subject,
     op: Op,
@@ -108,15 +108,14 @@ fn rows<'a>(
     guide: &'a [u8],
     file: &'a [u8],
 ) -> Pass<'a> {
-    let (mut entries, mut lent) = (register.to_vec(), guide.to_vec());
+    let mut lent = guide.to_vec();
     let mut answers = vec![0; MOST_RECORDS];
     Box::new(move || {
-        entries.copy_from_slice(register);
         lent.copy_from_slice(guide);
         answers.fill(0xee);
         match op {
-            Op::CheckGuide => timed(|| subject.check_guide(&entries, &lent, file, &answers, 0)),
-            _ => timed(|| subject.apply_guide(&mut entries, &mut lent, file, &mut answers, 0)),
+            Op::CheckGuide => timed(|| subject.check_guide(register, &lent, file, &answers, 0)),
+            _ => timed(|| subject.apply_guide(register, &mut lent, file, &mut answers, 0)),
         }
     })
 }
@@ -284,27 +283,19 @@ impl Bench {
         self.data_file((op, version), &name, &file);
     }
 
-    /// A row for a guide file under this name.
-    fn guide_file(&self, op: Op, name: &str, guide: &[u8], file: &[u8]) {
-        let register = &self.register;
-        let library = rows(&Library, op, register, guide, file);
-        let model = rows(&MODEL, op, register, guide, file);
-        report(name, library, model, copying(vec![register, guide, file]));
-    }
-
     fn rows(&self, op: Op) {
         let file = town::guide_file(self.slots);
         let empty = vec![0; self.slots * GUIDE_SLOT];
+        let register = &self.register;
         let name = format!("{}, {} rows into as many slots", op.name(), self.slots);
-        self.guide_file(op, &name, &empty, &file);
-    }
-
-    /// Rows that renumber those of a full guide by turns, over a full register.
-    fn zones(&self, records: usize) {
-        let (op, slots) = (Op::ApplyGuide, self.slots);
-        let file = town::zones_file(records, slots);
-        let name = format!("{}, {records} C rows, {slots} slots and rows", op.name());
-        self.guide_file(op, &name, &self.guide, &file);
+        let library = rows(&Library, op, register, &empty, &file);
+        let model = rows(&MODEL, op, register, &empty, &file);
+        report(
+            &name,
+            library,
+            model,
+            copying(vec![register, &empty, &file]),
+        );
     }
 
     fn soundness(&self) {
@@ -319,14 +310,13 @@ impl Bench {
         self.data(Op::ApplyData, version, records);
     }
 
-    /// Both calls that take a data file, of either version, both that take a guide
-    /// file, and a guide file that renumbers.
+    /// Both calls that take a data file, of either version, and both that take a
+    /// guide file.
     fn takes(&self, records: usize) {
         self.data_takes(Version::Two, records);
         self.data_takes(Version::One, records);
         self.rows(Op::CheckGuide);
         self.rows(Op::ApplyGuide);
-        self.zones(records);
     }
 
     /// Load files of either version: every entry has a form in both.

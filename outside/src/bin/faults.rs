@@ -1,4 +1,4 @@
-//! `faults [--seed S] [--cases N] [--full]`: twenty faults put into the model by
+//! `faults [--seed S] [--cases N] [--full]`: fifteen faults put into the model by
 //! hand. The differential runs against the library must see each of them; `--full`
 //! prints the call that showed it, made small.
 
@@ -6,10 +6,9 @@ use outside::arguments::Arguments;
 use outside::explore::{Explorer, Finding, Runs};
 use outside::face::Library;
 use outside::model::rules::{
-    AnswersUnmeasured, ClashWithoutParity, CpdFrom1960, CycleFromCheck, EsnCompared, NinetyOneDays,
-    NoCycleWrap, NoLeapYear, NoLeftJustify, PivotOneOff, ReservedLast, RestingForgotten,
-    RestingUnnumbered, RoomFirst, RowAsFiled, RowForgotten, RowsCounted, TrimmedFirst, UnfitFirst,
-    WideSlotUntold,
+    AnswersUnmeasured, ClashWithoutParity, CpdFrom1960, CycleFromCheck, NinetyOneDays, NoCycleWrap,
+    NoLeapYear, NoLeftJustify, PivotOneOff, ReservedLast, RestingForgotten, RoomFirst,
+    TrimmedFirst, UnfitFirst, WideSlotUntold,
 };
 use outside::model::Rules;
 use outside::random::Random;
@@ -44,7 +43,7 @@ fn in_texts<R: Rules>(arguments: &Arguments) -> Found {
 
 /// The faults, by their names.
 type Search = fn(&Arguments) -> Found;
-const FAULTS: [(&str, Search); 20] = [
+const FAULTS: [(&str, Search); 15] = [
     ("91 days instead of 90", in_files::<NinetyOneDays>),
     ("clash without parity", in_files::<ClashWithoutParity>),
     ("no left-justify rule", in_files::<NoLeftJustify>),
@@ -66,14 +65,6 @@ const FAULTS: [(&str, Search); 20] = [
     ("widened with Reserved last", in_files::<ReservedLast>),
     ("25 tried before 27", in_files::<RoomFirst>),
     ("27 without its slot", in_files::<WideSlotUntold>),
-    ("a C row's ESN compared", in_files::<EsnCompared>),
-    ("a C row that leaves its row", in_files::<RowForgotten>),
-    ("a C row stored as filed", in_files::<RowAsFiled>),
-    (
-        "a C row without resting slots",
-        in_files::<RestingUnnumbered>,
-    ),
-    ("C rows counted, not slots", in_files::<RowsCounted>),
     ("36 tried before 35", in_texts::<UnfitFirst>),
     (
         "values trimmed before they are too long",

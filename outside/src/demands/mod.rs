@@ -3,7 +3,6 @@
 
 mod streets;
 mod wide;
-mod zones;
 
 use crate::call::{Call, Op, Outcome};
 use crate::gen::NAME;
@@ -13,9 +12,6 @@ use crate::subject::Subject;
 use std::collections::HashMap;
 use streets::Streets;
 use wide::{has_form, wide};
-use zones::Rows;
-
-pub use zones::renumbers;
 
 /// No entry is later.
 const LAST_DATE: &[u8; 6] = b"123169";
@@ -30,34 +26,18 @@ struct Entry {
     open: bool,
 }
 
-/// The accepted records and rows of a run, in the order of taking.
+/// The accepted records of a run, in the order of taking.
 #[derive(Default)]
 pub struct History {
     entries: HashMap<Vec<u8>, Entry>,
     inserts: u64,
     deletes: u64,
-    rows: Rows,
     /// Whether a record was accepted of each version.
     accepted: [bool; 2],
-    /// Whether records came under a row that was renumbered: 19 with the ESN from
-    /// before, accepted with the present one, accepted with none.
-    under_renumbered: [bool; 3],
 }
-
-/// What a run may have had a part in, beside what one call shows.
-pub const MARKS: [&str; 4] = [
-    "a run with records done of both versions",
-    "a run with 19 for the ESN that a C replaced",
-    "a run with a record done for the ESN of a C",
-    "a run with a record done without an ESN under a row that a C renumbered",
-];
 
 fn number_of(whole: &[u8]) -> Vec<u8> {
     whole[record::NPA.first - 1..record::CALLING_NUMBER.last].to_vec()
-}
-
-fn is_blank(bytes: &[u8]) -> bool {
-    bytes.iter().all(|&byte| byte == b' ')
 }
 
 fn demand(kept: bool, what: &str) -> Result<(), String> {
@@ -69,52 +49,26 @@ fn demand(kept: bool, what: &str) -> Result<(), String> {
 }
 
 impl History {
-    /// Adds an accepted file's answers to the history.
+    /// Adds an accepted data file's answers to the history.
     pub fn note(&mut self, call: &Call, outcome: &Outcome) -> Result<(), String> {
-        match call.op {
-            _ if outcome.refusal() != 0 => Ok(()),
-            Op::ApplyData => self.note_records(call, outcome),
-            Op::ApplyGuide => self.rows.note(call, outcome),
-            _ => Ok(()),
+        if call.op != Op::ApplyData || outcome.refusal() != 0 {
+            return Ok(());
         }
-    }
-
-    fn note_records(&mut self, call: &Call, outcome: &Outcome) -> Result<(), String> {
-        let streets = Streets::read(&call.lent[1]);
         let version = call.version;
         let records = call.lent[2][version.edge()..].chunks_exact(version.record());
         let applied = outcome.returned[3] as usize;
         for (whole, &answer) in records.zip(&outcome.lent[3][..applied]) {
-            let whole = wide(version, whole);
-            self.note_zone(&streets, &whole, answer);
             if answer == 0 {
                 self.accepted[version as usize] = true;
-                self.accept(&whole)?;
+                self.accept(&wide(version, whole))?;
             }
         }
         Ok(())
     }
 
-    /// Marks a record whose address lies under a row that was renumbered.
-    fn note_zone(&mut self, streets: &Streets, whole: &[u8], answer: u8) {
-        if !matches!((whole[0], answer), (b'I' | b'C' | b'M', 0 | 19)) {
-            return;
-        }
-        let over = streets.over(whole);
-        let [row] = over[..] else { return };
-        if let Some(former) = self.rows.former(row) {
-            let esn = record::ESN.of(whole);
-            let [replaced, present, none] = &mut self.under_renumbered;
-            *replaced |= answer == 19 && esn == former;
-            *present |= answer == 0 && esn == row.esn;
-            *none |= answer == 0 && is_blank(esn);
-        }
-    }
-
-    /// Which of `MARKS` it has.
-    pub fn marks(&self) -> [bool; MARKS.len()] {
-        let [replaced, present, none] = self.under_renumbered;
-        [self.accepted == [true; 2], replaced, present, none]
+    /// Whether files of both versions have a part in it.
+    pub fn is_of_both_versions(&self) -> bool {
+        self.accepted == [true; 2]
     }
 
     fn accept(&mut self, whole: &[u8]) -> Result<(), String> {
@@ -166,9 +120,8 @@ impl History {
         }
     }
 
-    /// Demand 3: what stands in the stores is what the history says, each entry "with
-    /// the ESN its row has today", whatever its record was filed with.
-    pub fn check(&self, register: &[u8], guide: &[u8]) -> Result<(), String> {
+    /// Demand 3: what stands in the stores is what the history says.
+    pub fn check<'a>(&self, register: &'a [u8], guide: &'a [u8]) -> Result<(), String> {
         let streets = Streets::read(guide);
         demand(streets.are_clear(), "a house number under two rows")?;
         let mut seen = std::collections::HashSet::new();
@@ -197,7 +150,9 @@ impl History {
             )?;
             let mut expected = entry.filed.clone();
             let esn = record::ESN.of_mut(&mut expected);
-            esn.copy_from_slice(row.esn);
+            if esn.iter().all(|&byte| byte == b' ') {
+                esn.copy_from_slice(row.esn);
+            }
             demand(
                 expected == whole,
                 "an entry is not the last accepted record",
@@ -210,8 +165,7 @@ impl History {
         demand(
             live + self.deletes == self.inserts,
             "held and open are not I less D",
-        )?;
-        self.rows.check(guide)
+        )
     }
 }
 
@@ -285,25 +239,15 @@ fn is_back(slot: &[u8], whole: &[u8]) -> bool {
 mod tests {
     use super::*;
     use crate::gen::World;
-    use crate::model::layout::{row, GUIDE_SLOT};
+    use crate::model::layout::GUIDE_SLOT;
     use crate::model::Described;
     use crate::subject::Model;
 
     const MODEL: Model<Described> = Model::new();
 
-    /// A world whose first slot and first row are taken, with some to spare, and its
-    /// history.
+    /// A world with entries and a slot and a row to spare, and its history.
     fn grown() -> (World, History) {
-        let is_wanted = |(world, _): &(World, History)| {
-            let taken = world.register[0] == 1 && world.guide[0] == 1;
-            taken && world.register[63 * REGISTER_SLOT] == 0 && world.guide[63 * GUIDE_SLOT] == 0
-        };
-        let mut worlds = (1..).map(grown_from);
-        worlds.find(is_wanted).expect("one such world")
-    }
-
-    fn grown_from(seed: u64) -> (World, History) {
-        let mut world = World::sized(seed, 64, 64);
+        let mut world = World::sized(1, 64, 64);
         let mut history = History::default();
         for turn in 0..12 {
             let call = if turn < 4 {
@@ -324,6 +268,10 @@ mod tests {
         let (register, guide) = (&world.register, &world.guide);
         assert_eq!(history.check(register, guide), Ok(()));
         assert_eq!(round_trip(&MODEL, register, guide), Ok(()));
+        assert!(
+            register[0] == 1 && guide[0] == 1,
+            "the first ones are there"
+        );
         let seen = |change: &dyn Fn(&mut Vec<u8>, &mut Vec<u8>)| {
             let (mut register, mut guide) = (register.clone(), guide.clone());
             change(&mut register, &mut guide);
@@ -347,7 +295,5 @@ mod tests {
         assert_eq!(rows, "a house number under two rows");
         let bare = seen(&|_, guide| guide.fill(0));
         assert_eq!(bare, "an entry under 0 rows");
-        let noted = seen(&|_, guide| guide[SLOT_HEAD + row::FREE.first] = b'x');
-        assert_eq!(noted, "a row is not as filed and renumbered");
     }
 }

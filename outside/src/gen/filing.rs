@@ -1,7 +1,6 @@
 //! Records and rows of good form that matter to the stores as they are.
 
 use super::{put, World};
-use crate::model::date::Reading;
 use crate::model::form::number;
 use crate::model::layout::{narrow, record, row, Blank, Field, Form, RECORD, ROW};
 use crate::model::store::{HELD, OPEN};
@@ -10,15 +9,6 @@ use crate::model::{versions, Described};
 const COMPANIES: [&str; 4] = ["ABC", "XYZ12", "7", "ABCDE"];
 /// Two of them are one number.
 const ESNS: [&str; 4] = ["83", "083", "1", "99999"];
-/// The fields of a street in a record, and in a row.
-const STREET_FIELDS: [(Field, Field); 6] = [
-    (record::PREFIX, row::PREFIX),
-    (record::STREET, row::STREET),
-    (record::SUFFIX, row::SUFFIX),
-    (record::POST, row::POST),
-    (record::COMMUNITY, row::COMMUNITY),
-    (record::STATE, row::STATE),
-];
 
 impl World {
     /// A street's fields, by place in record or row. Streets 0 to 3 differ in
@@ -41,89 +31,33 @@ impl World {
         [prefix, &name, suffix, post, community, state].map(str::to_string)
     }
 
-    /// A row of good form, behind this one of its file.
-    pub(super) fn row_behind(&mut self, before: Option<&[u8; ROW]>) -> [u8; ROW] {
-        let present = self.some_row();
-        match (before, present) {
-            // The file may have inserted, renumbered or deleted that one itself.
-            (Some(before), _) if self.random.chance(12) => self.row_again(before),
-            (_, Some(present)) if self.random.chance(60) => self.row_again(&present),
-            _ => self.fresh_row(),
-        }
-    }
-
-    /// A row of one's range, or nearly so: renumbers it, deletes it, clashes with it.
-    /// Old worlds knew no C.
-    fn row_again(&mut self, one: &[u8; ROW]) -> [u8; ROW] {
-        if self.reading == Reading::Present && self.random.chance(45) {
-            return self.renumbering(one);
-        }
-        let mut whole = *one;
-        if self.random.chance(15) {
-            let esn = self.random.pick(&ESNS);
-            put(&mut whole, row::ESN, esn.as_bytes());
-        }
-        if self.random.chance(20) {
-            let low = format!("{:04}", number(row::LOW.of(&whole)));
-            put(&mut whole, row::LOW, low.as_bytes());
-        }
-        whole[row::FUNCTION.first - 1] = self.random.pick(b"DDDI");
-        whole
-    }
-
-    /// A C of that range, seldom of nearly that range; now and then with the ESN
-    /// that the row has, its ends in other digits, another free part.
-    fn renumbering(&mut self, one: &[u8; ROW]) -> [u8; ROW] {
-        let mut whole = *one;
-        whole[row::FUNCTION.first - 1] = b'C';
-        if self.random.chance(85) {
-            let esn = self.random.pick(&ESNS);
-            put(&mut whole, row::ESN, esn.as_bytes());
-        }
-        for end in [row::LOW, row::HIGH] {
-            if self.random.chance(15) {
-                let digits = format!("{:08}", number(end.of(&whole)));
-                put(&mut whole, end, digits.as_bytes());
-            }
-        }
-        if self.random.chance(20) {
-            let text: &[u8] = self.random.pick(&[&b""[..], b"  x"]);
-            put(&mut whole, row::FREE, text);
-        }
-        if self.random.chance(12) {
-            self.put_beside(&mut whole);
-        }
-        whole
-    }
-
-    /// Gives a row another side if its ends allow one, or another High.
-    fn put_beside(&mut self, whole: &mut [u8]) {
-        let [low, high] = [row::LOW, row::HIGH].map(|end| number(end.of(whole)));
-        let parity = row::PARITY.of(whole)[0];
-        let side = match (parity, low % 2 + high % 2) {
-            (b'B', 0) => Some(b'E'),
-            (b'B', 2) => Some(b'O'),
-            (b'B', _) => None,
-            _ => Some(b'B'),
-        };
-        match side {
-            Some(side) if self.random.chance(50) => put(whole, row::PARITY, &[side]),
-            _ => {
-                let step = if parity == b'B' { 1 } else { 2 };
-                let other = if low + step <= high {
-                    high - step
-                } else {
-                    high + step
-                };
-                put(whole, row::HIGH, other.to_string().as_bytes());
-            }
-        }
-    }
-
-    /// A row of any street.
-    fn fresh_row(&mut self) -> [u8; ROW] {
+    /// A row of good form.
+    pub fn row(&mut self) -> [u8; ROW] {
         let mut whole = [b' '; ROW];
-        for ((_, field), text) in STREET_FIELDS.into_iter().zip(self.street()) {
+        let present = self.some_row();
+        if let (Some(present), true) = (present, self.random.chance(45)) {
+            // One that is there: deletes it, clashes with it, or nearly so.
+            whole.copy_from_slice(&present);
+            if self.random.chance(15) {
+                let esn = self.random.pick(&ESNS);
+                put(&mut whole, row::ESN, esn.as_bytes());
+            }
+            if self.random.chance(20) {
+                let low = format!("{:04}", number(row::LOW.of(&whole)));
+                put(&mut whole, row::LOW, low.as_bytes());
+            }
+            whole[row::FUNCTION.first - 1] = self.random.pick(b"DDDI");
+            return whole;
+        }
+        let fields = [
+            row::PREFIX,
+            row::STREET,
+            row::SUFFIX,
+            row::POST,
+            row::COMMUNITY,
+            row::STATE,
+        ];
+        for (field, text) in fields.into_iter().zip(self.street()) {
             put(&mut whole, field, text.as_bytes());
         }
         let parity = self.random.pick(b"OEB");
@@ -157,18 +91,23 @@ impl World {
 
     /// Writes an address, and perhaps the ESN: mostly under a present row.
     fn put_address(&mut self, whole: &mut [u8]) {
-        let present = self.some_row_before_and_now();
+        const PAIRS: [(Field, Field); 6] = [
+            (record::PREFIX, row::PREFIX),
+            (record::STREET, row::STREET),
+            (record::SUFFIX, row::SUFFIX),
+            (record::POST, row::POST),
+            (record::COMMUNITY, row::COMMUNITY),
+            (record::STATE, row::STATE),
+        ];
+        let present = self.some_row();
         let mut esn = self.random.pick(&ESNS).as_bytes().to_vec();
         let house = match present {
-            Some((earlier, present)) if self.random.chance(85) => {
-                for (field, from) in STREET_FIELDS {
+            Some(present) if self.random.chance(85) => {
+                for (field, from) in PAIRS {
                     put(whole, field, from.of(&present));
                 }
-                // The row's own, the one that it may have had before, or any.
-                match (self.random.below(20), earlier) {
-                    (0..16, _) => esn = row::ESN.of(&present).to_vec(),
-                    (16..18, Some(earlier)) => esn = row::ESN.of(&earlier).to_vec(),
-                    _ => {}
+                if self.random.chance(85) {
+                    esn = row::ESN.of(&present).to_vec();
                 }
                 let (low, high) = (
                     number(row::LOW.of(&present)),
@@ -179,7 +118,7 @@ impl World {
                     .pick(&[house, house, low, low, high, high, high + 1])
             }
             _ => {
-                for ((field, _), text) in STREET_FIELDS.into_iter().zip(self.street()) {
+                for ((field, _), text) in PAIRS.into_iter().zip(self.street()) {
                     put(whole, field, text.as_bytes());
                 }
                 self.random.between(0, self.houses)
@@ -288,40 +227,5 @@ impl World {
         } else {
             whole
         }
-    }
-}
-
-#[cfg(test)]
-mod tests {
-    use super::*;
-    use crate::model::layout::EDGE;
-    use crate::model::Described;
-    use crate::subject::Model;
-
-    /// Whether a guide file has a C row.
-    fn renumbers(file: &[u8]) -> bool {
-        let mut rows = file[EDGE..].chunks_exact(ROW);
-        rows.any(|whole| row::FUNCTION.of(whole) == b"C")
-    }
-
-    #[test]
-    fn of_guide_files_on_present_rows_a_third_renumber() {
-        let (mut all, mut renumbering) = (0, 0);
-        for seed in 0..400 {
-            let mut world = World::new(seed);
-            for _ in 0..8 {
-                let call = world.apply_guide();
-                if world.guide.iter().any(|&byte| byte != 0) {
-                    all += 1;
-                    renumbering += usize::from(renumbers(&call.lent[2]));
-                }
-                let outcome = call.run(&Model::<Described>::new(), 0);
-                world.adopt(call.op, &outcome.returned, &outcome.lent);
-            }
-        }
-        assert!(
-            all > 1000 && 3 * renumbering >= all,
-            "{renumbering} of {all}"
-        );
     }
 }

@@ -8,12 +8,10 @@ mod filing;
 mod old;
 mod tagged;
 
-use crate::call::{Op, LAST};
+use crate::call::Op;
 use crate::model::date::{date_of, day, Day, Reading, LAST_DAY};
-use crate::model::desk::Desk;
 use crate::model::layout::{
-    header, record, trailer, Field, GUIDE_SLOT, NARROW_RECORD, RECORD, REGISTER_SLOT, ROW,
-    SLOT_HEAD,
+    header, record, trailer, Field, GUIDE_SLOT, NARROW_RECORD, RECORD, REGISTER_SLOT, SLOT_HEAD,
 };
 use crate::model::store::{slot_day, slot_number, slot_record, RESTING};
 use crate::model::versions::narrow;
@@ -45,8 +43,6 @@ pub struct World {
     pub register: Vec<u8>,
     /// The guide.
     pub guide: Vec<u8>,
-    /// The guide before a file changed it: its rows may have had other ESNs.
-    earlier: Vec<u8>,
     /// The last cycle of data files.
     pub last_data: u32,
     /// The last cycle of guide files.
@@ -146,7 +142,6 @@ impl World {
             last_day: LAST_DAY.0,
             register: vec![0; slots * REGISTER_SLOT],
             guide: vec![0; rows * GUIDE_SLOT],
-            earlier: vec![0; rows * GUIDE_SLOT],
             last_data: 0,
             last_guide: 0,
             today,
@@ -186,19 +181,11 @@ impl World {
     }
 
     /// A present row, if there is one.
-    fn some_row(&mut self) -> Option<[u8; ROW]> {
-        self.some_row_before_and_now().map(|(_, now)| now)
-    }
-
-    /// A present row, if there is one, and what stood in its slot earlier.
-    fn some_row_before_and_now(&mut self) -> Option<(Option<[u8; ROW]>, [u8; ROW])> {
+    fn some_row(&mut self) -> Option<Vec<u8>> {
         let rows = self.guide.len() / GUIDE_SLOT;
         let at = self.random.below(rows) * GUIDE_SLOT;
-        let row = |guide: &[u8]| -> Option<[u8; ROW]> {
-            let slot = &guide[at..at + GUIDE_SLOT];
-            (slot[0] != 0).then(|| slot[SLOT_HEAD..].try_into().expect("a row"))
-        };
-        row(&self.guide).map(|now| (row(&self.earlier), now))
+        let slot = &self.guide[at..at + GUIDE_SLOT];
+        (slot[0] != 0).then(|| slot[SLOT_HEAD..].to_vec())
     }
 
     /// Goes on to the day of the next file: often to one where a resting slot
@@ -244,46 +231,26 @@ impl World {
 
     /// A guide file of n rows for the stores as they are.
     pub fn guide_file(&mut self, count: usize) -> Vec<u8> {
-        let mut rows: Vec<[u8; ROW]> = Vec::with_capacity(count);
-        for _ in 0..count {
-            let row = self.row_behind(rows.last());
-            rows.push(row);
-        }
+        let rows: Vec<u8> = (0..count).flat_map(|_| self.row()).collect();
         file(
             &self.date(self.today),
             next_cycle(self.last_guide),
-            &rows.concat(),
+            &rows,
             count,
         )
     }
 
-    /// Takes over a guide that a file may have changed.
-    fn take_guide(&mut self, guide: &[u8]) {
-        if self.guide != guide {
-            std::mem::swap(&mut self.earlier, &mut self.guide);
-            self.guide.copy_from_slice(guide);
-        }
-    }
-
-    /// Takes over the stores and cycles of a desk of this size.
-    pub fn follow(&mut self, desk: &Desk) {
-        self.register.clone_from(&desk.register);
-        self.take_guide(&desk.guide);
-        self.last_data = desk.last_data;
-        self.last_guide = desk.last_guide;
-    }
-
     /// Takes over what an apply left.
     pub fn adopt(&mut self, op: Op, returned: &[u32], lent: &[Vec<u8>]) {
+        let last = returned.last().copied().unwrap_or(0);
         match op {
             Op::ApplyData => {
                 self.register.clone_from(&lent[0]);
-                self.last_data = returned[LAST];
+                self.last_data = last;
             }
             Op::ApplyGuide => {
-                self.register.clone_from(&lent[0]);
-                self.take_guide(&lent[1]);
-                self.last_guide = returned[LAST];
+                self.guide.clone_from(&lent[1]);
+                self.last_guide = last;
             }
             _ => {}
         }

@@ -2,9 +2,9 @@
 
 use super::date::{day, Day};
 use super::form::blank;
-use super::guide::{clash, covers, lowest_cover, same_range, same_row, same_street, Address};
+use super::guide::{clash, lowest_cover, same_row, same_street, Address};
 use super::layout::{record, row, GUIDE_SLOT, REGISTER_SLOT, SLOT_HEAD};
-use super::rules::{Renumbering, Rules};
+use super::rules::Rules;
 use super::store::{
     is_live, rows, slot_day, slot_number, slot_record, slots, FREE, HELD, OPEN, PRESENT, RESTING,
 };
@@ -105,13 +105,12 @@ fn write_head(slot: &mut [u8], state: u8, date: Day) {
     slot[5..SLOT_HEAD].fill(0);
 }
 
-/// Applies a row of good form to what the earlier ones left: its answer, and the
-/// slots that it reports, which a C alone does.
-pub fn guide_row<R: Rules>(register: &mut [u8], guide: &mut [u8], whole: &[u8]) -> (u8, u32) {
-    match row::FUNCTION.of(whole) {
-        b"I" => (insert_row::<R>(guide, whole), 0),
-        b"D" => (delete_row(register, guide, whole), 0),
-        _ => renumber::<R>(register, guide, whole),
+/// Applies a row of good form to what the earlier ones left.
+pub fn guide_row<R: Rules>(register: &[u8], guide: &mut [u8], whole: &[u8]) -> u8 {
+    if row::FUNCTION.of(whole) == b"I" {
+        insert_row::<R>(guide, whole)
+    } else {
+        delete_row(register, guide, whole)
     }
 }
 
@@ -149,59 +148,12 @@ fn delete_row(register: &[u8], guide: &mut [u8], whole: &[u8]) -> u8 {
         return 23;
     };
     let slot = &mut guide[index * GUIDE_SLOT..][..GUIDE_SLOT];
-    let lies_under =
-        |entry: &[u8]| is_live(entry) && covers(&slot[SLOT_HEAD..], slot_record(entry));
+    let lies_under = |entry: &[u8]| {
+        is_live(entry) && Address::of(slot_record(entry)).is_under(&slot[SLOT_HEAD..])
+    };
     if slots(register).any(lies_under) {
         return 24;
     }
     slot.fill(0);
     DONE
-}
-
-/// "The lowest row with the same street fields, Low, High and parity gets the new
-/// ESN, and so does every used register slot that it covers, resting ones included;
-/// no other byte changes. 23 if no such row, ESN not compared": the answer, and how
-/// many slots it covers.
-fn renumber<R: Rules>(register: &mut [u8], guide: &mut [u8], whole: &[u8]) -> (u8, u32) {
-    let is_named = |other: &[u8]| {
-        if R::ESN_NAMES_ROW {
-            same_row(whole, other)
-        } else {
-            same_range(whole, other)
-        }
-    };
-    let Some(index) = row_where(guide, is_named) else {
-        return (23, 0);
-    };
-    let stored = &mut guide[index * GUIDE_SLOT..][SLOT_HEAD..GUIDE_SLOT];
-    let esn = row::ESN.of(whole);
-    let covered = renumber_under::<R>(register, stored, esn);
-    match R::ROW_GETS {
-        Renumbering::Esn => row::ESN.of_mut(stored).copy_from_slice(esn),
-        Renumbering::Nothing => {}
-        Renumbering::Whole => {
-            stored.copy_from_slice(whole);
-            row::FUNCTION.of_mut(stored)[0] = b'I';
-        }
-    }
-    (DONE, if R::SLOTS_COUNTED { covered } else { 1 })
-}
-
-/// Every used slot under the row gets the ESN; how many they are.
-fn renumber_under<R: Rules>(register: &mut [u8], row: &[u8], esn: &[u8]) -> u32 {
-    let mut covered = 0;
-    for slot in register.chunks_exact_mut(REGISTER_SLOT) {
-        let renumbered = if R::RESTING_RENUMBERED {
-            slot[0] != FREE
-        } else {
-            is_live(slot)
-        };
-        if renumbered && covers(row, slot_record(slot)) {
-            record::ESN
-                .of_mut(&mut slot[SLOT_HEAD..])
-                .copy_from_slice(esn);
-            covered += 1;
-        }
-    }
-    covered
 }

@@ -249,7 +249,7 @@ fn a_row_that_only_an_open_number_uses_stays() {
     put(&mut delete, row::FUNCTION, b"D");
     let (mut guide, mut answers) = (a_guide(), [0xee; 2]);
     let all = file(b"010100", 1, &delete, 1);
-    let taken = apply_guide::<Described>(&mut register, &mut guide, &all, &mut answers, 0);
+    let taken = apply_guide::<Described>(&register, &mut guide, &all, &mut answers, 0);
     assert_eq!((taken.done, taken.undone, taken.last), (0, 1, 1));
     assert_eq!((answers, guide), ([24, 0xee], a_guide()));
 }

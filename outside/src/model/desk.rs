@@ -94,7 +94,7 @@ impl Desk {
     fn guide_file(&mut self, output: &mut Vec<u8>) {
         let file = std::mem::take(&mut self.collected);
         let mut answers = [0; MOST_RECORDS];
-        let (register, guide) = (&mut self.register, &mut self.guide);
+        let (register, guide) = (&self.register, &mut self.guide);
         let taken = apply_guide::<Described>(register, guide, &file, &mut answers, self.last_guide);
         self.last_guide = taken.last;
         tell(&taken, &answers, output);

@@ -11,12 +11,6 @@ fn row_street(whole: &[u8]) -> &[u8] {
     &whole[row::PREFIX.first - 1..row::POST.last]
 }
 
-/// The same of a record.
-#[inline(always)]
-fn record_street(whole: &[u8]) -> &[u8] {
-    &whole[record::PREFIX.first - 1..record::POST.last]
-}
-
 /// Community and state stand together in record and row.
 #[inline(always)]
 fn row_place(whole: &[u8]) -> &[u8] {
@@ -44,7 +38,7 @@ impl<'a> Address<'a> {
     /// The address of a record of good form; "blank counts as 0".
     #[inline]
     pub fn of(whole: &'a [u8]) -> Self {
-        let street = record_street(whole);
+        let street = &whole[record::PREFIX.first - 1..record::POST.last];
         let place = &whole[record::COMMUNITY.first - 1..record::STATE.last];
         Address {
             street: street.try_into().expect("26 to 93"),
@@ -62,13 +56,6 @@ impl<'a> Address<'a> {
             && (number(row::LOW.of(whole))..=number(row::HIGH.of(whole))).contains(&self.house)
             && parity_allows(row::PARITY.of(whole)[0], self.house)
     }
-}
-
-/// Whether a row covers a record's address. The streets are told apart before any
-/// number is read: they nearly always decide.
-#[inline]
-pub fn covers(row: &[u8], whole: &[u8]) -> bool {
-    equal_streets(row_street(row), record_street(whole)) && Address::of(whole).is_under(row)
 }
 
 /// The lowest row that covers the address.
@@ -99,17 +86,12 @@ pub fn clash<R: Rules>(one: &[u8], other: &[u8]) -> bool {
         .any(|house| parities.iter().all(|&parity| parity_allows(parity, house)))
 }
 
-/// "The same street fields, Low, High and parity": the ends as numbers.
-#[inline]
-pub fn same_range(one: &[u8], other: &[u8]) -> bool {
-    same_street(one, other)
-        && row::PARITY.of(one) == row::PARITY.of(other)
-        && number(row::LOW.of(one)) == number(row::LOW.of(other))
-        && number(row::HIGH.of(one)) == number(row::HIGH.of(other))
-}
-
 /// "Same street fields, Low and High as numbers, parity and ESN bytes."
 #[inline]
 pub fn same_row(one: &[u8], other: &[u8]) -> bool {
-    same_range(one, other) && row::ESN.of(one) == row::ESN.of(other)
+    same_street(one, other)
+        && row::PARITY.of(one) == row::PARITY.of(other)
+        && row::ESN.of(one) == row::ESN.of(other)
+        && number(row::LOW.of(one)) == number(row::LOW.of(other))
+        && number(row::HIGH.of(one)) == number(row::HIGH.of(other))
 }

@@ -214,7 +214,7 @@ pub mod row {
         PARITY "parity" 123 123 Form::OneOf(b"OEB"), Never;
         ESN "ESN" 124 128 Form::Digits(5), Never;
         FREE "free" 129 198 Form::Free, May;
-        FUNCTION "Function" 199 199 Form::OneOf(b"IDC"), Never;
+        FUNCTION "Function" 199 199 Form::OneOf(b"ID"), Never;
         STAR "*" 200 200 Form::OneOf(b"*"), Never;
     }
 }

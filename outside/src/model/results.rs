@@ -18,9 +18,6 @@ pub struct Taken {
     pub undone: u32,
     /// The last cycle afterwards: a check leaves it as given.
     pub last: u32,
-    /// Used slots under the rows that a guide file renumbered, for each C row that
-    /// is done; 0 elsewhere.
-    pub covered: u32,
 }
 
 /// The answer to the writing of a load file.

@@ -5,18 +5,7 @@
 use super::date::Reading;
 use std::marker::PhantomData;
 
-/// What the row that a C names gets of it.
-#[derive(Clone, Copy, Debug, PartialEq, Eq)]
-pub enum Renumbering {
-    /// Its ESN, as described.
-    Esn,
-    /// Nothing.
-    Nothing,
-    /// All that it says but for its code.
-    Whole,
-}
-
-/// What the description decides at the nineteen places, and how dates are read.
+/// What the description decides at the fifteen places, and how dates are read.
 pub trait Rules {
     /// Days after which another number may have a resting slot.
     const RESTING_DAYS: u32 = 90;
@@ -48,15 +37,6 @@ pub trait Rules {
     const WIDE_FIRST: bool = true;
     /// 27 "with the lowest such entry's slot".
     const WIDE_SLOT_TOLD: bool = true;
-    /// Of a C row: "23 if no such row, ESN not compared".
-    const ESN_NAMES_ROW: bool = false;
-    /// "The lowest row .. gets the new ESN; no other byte of register or guide
-    /// changes."
-    const ROW_GETS: Renumbering = Renumbering::Esn;
-    /// "Every used register slot that it covers, resting ones included."
-    const RESTING_RENUMBERED: bool = true;
-    /// "Reports the covered slots of its C rows", not the rows.
-    const SLOTS_COUNTED: bool = true;
     /// How dates are read.
     const READING: Reading = Reading::Present;
 }
@@ -83,10 +63,6 @@ impl<R: Rules> Rules for Former<R> {
     const RESERVED_FIRST: bool = R::RESERVED_FIRST;
     const WIDE_FIRST: bool = R::WIDE_FIRST;
     const WIDE_SLOT_TOLD: bool = R::WIDE_SLOT_TOLD;
-    const ESN_NAMES_ROW: bool = R::ESN_NAMES_ROW;
-    const ROW_GETS: Renumbering = R::ROW_GETS;
-    const RESTING_RENUMBERED: bool = R::RESTING_RENUMBERED;
-    const SLOTS_COUNTED: bool = R::SLOTS_COUNTED;
     const READING: Reading = Reading::Former;
 }
 
@@ -178,34 +154,4 @@ impl Rules for RoomFirst {
 pub struct WideSlotUntold;
 impl Rules for WideSlotUntold {
     const WIDE_SLOT_TOLD: bool = false;
-}
-
-/// Fault: a C finds its row by the ESN too, as a D does.
-pub struct EsnCompared;
-impl Rules for EsnCompared {
-    const ESN_NAMES_ROW: bool = true;
-}
-
-/// Fault: a C renumbers the entries, and not their row.
-pub struct RowForgotten;
-impl Rules for RowForgotten {
-    const ROW_GETS: Renumbering = Renumbering::Nothing;
-}
-
-/// Fault: a C is stored as it was filed, but for its code.
-pub struct RowAsFiled;
-impl Rules for RowAsFiled {
-    const ROW_GETS: Renumbering = Renumbering::Whole;
-}
-
-/// Fault: a C leaves resting slots as they are.
-pub struct RestingUnnumbered;
-impl Rules for RestingUnnumbered {
-    const RESTING_RENUMBERED: bool = false;
-}
-
-/// Fault: the C rows are reported, not the slots that they cover.
-pub struct RowsCounted;
-impl Rules for RowsCounted {
-    const SLOTS_COUNTED: bool = false;
 }

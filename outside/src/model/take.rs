@@ -101,10 +101,9 @@ pub fn apply_data<R: Rules>(
     }
 }
 
-/// Applies a guide file: it "writes the register too, and reports the covered slots
-/// of its C rows, added up".
+/// Applies a guide file.
 pub fn apply_guide<R: Rules>(
-    register: &mut [u8],
+    register: &[u8],
     guide: &mut [u8],
     file: &[u8],
     answers: &mut [u8],
@@ -113,15 +112,9 @@ pub fn apply_guide<R: Rules>(
     let kind = guide_file::<R>();
     match examine::<R>(&kind, register, guide, file, answers.len(), last) {
         Err(refusal) => refusal,
-        Ok(file) => {
-            let mut covered = 0;
-            let taken = apply(&file, kind.size, answers, |whole| {
-                let (answer, slots) = guide_row::<R>(register, guide, whole);
-                covered += slots;
-                answer
-            });
-            Taken { covered, ..taken }
-        }
+        Ok(file) => apply(&file, kind.size, answers, |whole| {
+            guide_row::<R>(register, guide, whole)
+        }),
     }
 }
 

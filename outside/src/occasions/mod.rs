@@ -1,9 +1,8 @@
 //! What must come up beside the numbers: conversions of each kind, decisions
-//! between a date of the last century and one of this, how far a check goes, what
-//! files of one version do beside those of the other, and what rows renumber.
+//! between a date of the last century and one of this, how far a check goes, and
+//! what files of one version do beside those of the other.
 
 mod versions;
-mod zones;
 
 use crate::call::{Call, Op, Outcome};
 use crate::model::convert::{LAST_FORMER_DAY, MOVED};
@@ -20,7 +19,7 @@ use crate::subject::Model;
 type CameUp = fn(&Call, &Outcome) -> bool;
 
 /// All of them, with their names.
-pub const OCCASIONS: [(&str, CameUp); 66] = [
+pub const OCCASIONS: [(&str, CameUp); 42] = [
     ("a held slot converted", is_converted::<HELD>),
     ("an open slot converted", is_converted::<OPEN>),
     ("a resting slot converted", is_converted::<RESTING>),
@@ -93,51 +92,6 @@ pub const OCCASIONS: [(&str, CameUp); 66] = [
         "a Version 1 load file with what an M stored",
         versions::with_migrated,
     ),
-    ("a C row over a held slot", zones::over::<HELD>),
-    ("a C row over an open slot", zones::over::<OPEN>),
-    ("a C row over a resting slot", zones::over::<RESTING>),
-    (
-        "a C row over a slot of another ESN than its row's",
-        zones::over_other_esn,
-    ),
-    ("a C row over no used slot", zones::over_none),
-    (
-        "a C row of one side, an entry on the other",
-        zones::one_side,
-    ),
-    ("a slot under two C rows of a file", zones::twice),
-    (
-        "a guide file that changes the register",
-        zones::register_changed,
-    ),
-    ("a C row of its row's own ESN", zones::own_esn),
-    ("a C row with its ends in other digits", zones::other_digits),
-    ("a C row with another free part", zones::other_free_part),
-    ("a C row of two equal ranges", zones::of_two),
-    (
-        "a C row over a slot under a lower row too",
-        zones::below_another,
-    ),
-    ("a C row of a row that its file inserts", zones::inserted),
-    ("23 of a C row", zones::no_such_row),
-    ("23 of a C row for its side", zones::other_side),
-    ("23 of a C row for its High", zones::other_high),
-    (
-        "behind a C row, 23 of a D of the ESN before",
-        zones::old_deleted,
-    ),
-    (
-        "behind a C row, 24 of a D of its ESN",
-        zones::new_deleted::<24>,
-    ),
-    (
-        "behind a C row, a D of its ESN done",
-        zones::new_deleted::<0>,
-    ),
-    ("a stored row of code C, 2", zones::stored),
-    ("a C row without an ESN, 9 at 124", zones::without_esn),
-    ("a row of code U or M, 9 at 199", zones::unknown),
-    ("9 behind a C row that was good", zones::refused_behind),
 ];
 
 /// The register that is lent; every call has it first.

@@ -26,30 +26,9 @@ returns-3 c =
 returns-4 : tie.Need-returns-4
 unfolding row_code_of
 returns-4 c =
-    let at-if2 = c.before.before in
-    let row-function = at-if2.before.row-function in
-    let if1 = at-if2.before.before.if1 in
-    rw (
-      eq-eqb _ _ if1.false,
-      ← row-function.ensures,
-      ne_eqb _ _ at-if2.if2.false,
-      ne_eqb _ _ c.before.if3.false,
-      eq-eqb _ _ c.if4.true,
-    )
-
-returns-5 : tie.Need-returns-5
-unfolding row_code_of
-returns-5 c =
-    let at-if2 = c.before.before in
-    let row-function = at-if2.before.row-function in
-    let if1 = at-if2.before.before.if1 in
-    rw (
-      eq-eqb _ _ if1.false,
-      ← row-function.ensures,
-      ne_eqb _ _ at-if2.if2.false,
-      ne_eqb _ _ c.before.if3.false,
-      ne_eqb _ _ c.if4.false,
-    )
+    let row-function = c.before.before.row-function in
+    let if1 = c.before.before.before.if1 in
+    rw (eq-eqb _ _ if1.false, ← row-function.ensures, ne_eqb _ _ c.before.if2.false, ne_eqb _ _ c.if3.false)
 
 pub row-code-spec : {M : Type 1} → statement M
-row-code-spec = tie.close (tie.spec returns row-function-requires returns-2 returns-3 returns-4 returns-5)
+row-code-spec = tie.close (tie.spec returns row-function-requires returns-2 returns-3 returns-4)

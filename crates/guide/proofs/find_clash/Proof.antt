@@ -1,12 +1,12 @@
--- No row below i clashes with g, and n - i falls. Rows that next_on skips are of another street, where by clash_not nothing clashes:
--- street_first moves i over those before the first, street_next over a miss and those behind it. A hit is passed_hit, the end passed_all.
-use Prim.Native.Nat.{◌-◌, ◌/◌}
+-- No row below i clashes with g, and n - i falls. Rows that next_on skips are of another street, where by clash_not nothing clashes,
+-- so passed_on moves i over them; what is left is passed_more after a miss, passed_hit at a hit, passed_all at the end.
+use Prim.Native.Nat.{◌+◌, ◌-◌, ◌/◌}
 use lib.ListN.{length}
 use borrow.Author.Rules.{rules}
 use Rattle.rules.specs.Rows.{clash_at, clashes_by}
-use Rattle.rules.proofs.WalkLaws.{Passed, passed_hit, passed_all}
+use Rattle.rules.proofs.WalkLaws.{Passed, passed_none, passed_more, passed_hit, passed_all}
 use Rattle.rules.proofs.PlaceLaws.{place_test}
-use Rattle.guide.proofs.StreetLaws.{street_first, street_next, clash_not}
+use Rattle.guide.proofs.StreetLaws.{passed_on, clash_not}
 use Rattle.guide.proofs.find_clash.Statement.{statement}
 use Rattle.guide.proofs.find_clash.Tie as tie
 
@@ -23,13 +23,13 @@ next-on-requires : tie.Need-next-on-requires invariant-loop decreases-loop
 next-on-requires c κs = search rules
 
 loop-holds : tie.Need-loop-init invariant-loop decreases-loop
-unfolding clash_at
 loop-holds c =
     let row-street = c.before.row-street in
     let at-start = c.before.before.before.before.args in
     let g = at-start.g.now in
-    street_first (clashes_by g) row-street.result.now at-start.guide.now
-    (clash_not g row-street.result.now row-street.ensures) c.next-on.result c.next-on.ensures
+    let guide = at-start.guide.now in
+    passed_on (clash_at g guide) (length guide / 208) row-street.result.now guide
+    (clash_not g row-street.result.now guide row-street.ensures) 0 c.next-on.result (passed_none _ _) c.next-on.ensures
 
 mul-a : tie.Need-overflow-mul-a invariant-loop decreases-loop
 mul-a c = search rules
@@ -78,12 +78,15 @@ loop-again c =
     let at-does-clash = c.before.before in
     let loop-test = at-does-clash.before.before.loop-test in
     let at-loop = at-does-clash.before.before.before in
+    let i = at-loop.loop.i in
     let row-street = at-loop.before.before.row-street in
     let at-start = at-loop.before.before.before.before.before.args in
     let g = at-start.g.now in
-    street_next (clashes_by g) row-street.result.now at-start.guide.now
-    (clash_not g row-street.result.now row-street.ensures) at-loop.loop.i c.next-on2.result
-    at-loop.loop.invariant loop-test.true at-does-clash.does-clash.ensures c.before.if1.false c.next-on2.ensures
+    let guide = at-start.guide.now in
+    passed_on (clash_at g guide) (length guide / 208) row-street.result.now guide
+    (clash_not g row-street.result.now guide row-street.ensures) (i + 1) c.next-on2.result
+    (passed_more (clash_at g guide) (length guide / 208) i at-loop.loop.invariant loop-test.true
+    (place_test 208 (clashes_by g) guide i at-does-clash.does-clash.ensures c.before.if1.false)) c.next-on2.ensures
 
 returns-2 : tie.Need-returns-2 invariant-loop decreases-loop
 returns-2 c =

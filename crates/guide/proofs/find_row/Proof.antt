@@ -1,15 +1,15 @@
 -- No row below i covers the record, and n - i falls. Without a house number none does (none_over), so all are passed at once.
 -- Else read_over makes is_over's test of street, place and number the test of the record, and rows that next_on skips are of another
--- street, where over_not says no: street_first and street_next move i over them. A hit is passed_hit, the end passed_all.
+-- street, where over_not says no: passed_on moves i over them. A hit is passed_hit, the end passed_all.
 use mathlib.Core.Path.{◌∙◌, sym}
-use Prim.Native.Nat.{◌-◌, ◌/◌}
+use Prim.Native.Nat.{◌+◌, ◌-◌, ◌/◌}
 use native.Mathlib.Omega.{arith}
 use lib.ListN.{length}
 use borrow.Author.Rules.{rules}
 use Rattle.rules.specs.Records.{is_over, covers_by}
-use Rattle.rules.proofs.WalkLaws.{Passed, passed_hit, passed_all}
+use Rattle.rules.proofs.WalkLaws.{Passed, passed_none, passed_more, passed_hit, passed_all}
 use Rattle.rules.proofs.PlaceLaws.{place_test}
-use Rattle.guide.proofs.StreetLaws.{passed_through, street_first, street_next, read_over, none_over, over_not}
+use Rattle.guide.proofs.StreetLaws.{passed_through, passed_on, read_over, none_over, over_not}
 use Rattle.guide.proofs.find_row.Statement.{statement}
 use Rattle.guide.proofs.find_row.Tie as tie
 
@@ -48,13 +48,13 @@ next-on-requires : tie.Need-next-on-requires invariant-loop decreases-loop
 next-on-requires c κs = search rules
 
 loop-holds : tie.Need-loop-init invariant-loop decreases-loop
-unfolding is_over
 loop-holds c =
     let street = c.before.before.street in
     let at-start = c.before.before.before.before.before.before.before.before.before.args in
     let rec = at-start.rec.now in
-    street_first (covers_by rec) street.result.now at-start.guide.now
-    (over_not rec street.result.now street.ensures) c.next-on.result c.next-on.ensures
+    let guide = at-start.guide.now in
+    passed_on (is_over rec guide) (length guide / 208) street.result.now guide
+    (over_not rec street.result.now guide street.ensures) 0 c.next-on.result (passed_none _ _) c.next-on.ensures
 
 mul-a : tie.Need-overflow-mul-a invariant-loop decreases-loop
 mul-a c = search rules
@@ -111,6 +111,7 @@ loop-again c =
     let at-is-over = c.before.before in
     let loop-test = at-is-over.before.before.loop-test in
     let at-loop = at-is-over.before.before.before in
+    let i = at-loop.loop.i in
     let at_place = at-loop.before.before in
     let place = at_place.place in
     let street = at_place.before.street in
@@ -118,12 +119,14 @@ loop-again c =
     let house = at-house2.before.before.house in
     let at-start = at-house2.before.before.before.before.before.args in
     let rec = at-start.rec.now in
-    street_next (covers_by rec) street.result.now at-start.guide.now
-    (over_not rec street.result.now street.ensures) at-loop.loop.i c.next-on2.result
-    at-loop.loop.invariant loop-test.true
+    let guide = at-start.guide.now in
+    passed_on (is_over rec guide) (length guide / 208) street.result.now guide
+    (over_not rec street.result.now guide street.ensures) (i + 1) c.next-on2.result
+    (passed_more (is_over rec guide) (length guide / 208) i at-loop.loop.invariant loop-test.true
+    (place_test 208 (covers_by rec) guide i
     (at-is-over.is-over.ensures
     ∙ read_over rec street.result.now place.result.now _ street.ensures place.ensures
-    (sym house.ensures ∙ at-house2.house2.given.1) _) c.before.if1.false c.next-on2.ensures
+    (sym house.ensures ∙ at-house2.house2.given.1) _) c.before.if1.false)) c.next-on2.ensures
 
 returns-3 : tie.Need-returns-3 invariant-loop decreases-loop
 returns-3 c =

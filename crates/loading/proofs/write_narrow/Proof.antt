@@ -1,5 +1,5 @@
--- The copy is as long as the record, so write_wide leaves for_load in it; the narrowed record has 240 bytes (narrow_length), as many as the
--- line, and put writes them all (put_all).
+-- The copy is as long as the record, so write_wide leaves for_load in it; narrowed's 240 bytes are as many as the line's, and put writes
+-- them all (put_all).
 use mathlib.Core.Path.{sym, ap, ◌∙◌}
 use mathlib.Core.List.{List}
 use Prim.Native.Nat.{ℕ}
@@ -18,17 +18,14 @@ slice-aggregate-write-wide c = search rules
 write-wide-requires : tie.Need-write-wide-requires
 write-wide-requires c κs = search rules
 
-slice-aggregate-narrow : tie.Need-slice-aggregate-narrow
-slice-aggregate-narrow c = search rules
+slice-aggregate-narrowed : tie.Need-slice-aggregate-narrowed
+slice-aggregate-narrowed c = search rules
 
-narrow-requires : tie.Need-narrow-requires
-narrow-requires c κs = search rules
+narrowed-requires : tie.Need-narrowed-requires
+narrowed-requires c κs = search rules
 
 slice-aggregate-put : tie.Need-slice-aggregate-put
-slice-aggregate-put c =
-    let narrow2 = c.before.before.narrow2 in
-    let write-wide = c.before.before.before.before.before.before.write-wide in
-    sym (ap (λ (s : List ℕ). length s) narrow2.ensures ∙ narrow_length write-wide.new.0)
+slice-aggregate-put c = search rules
 
 put-requires : tie.Need-put-requires
 put-requires c κs = search rules
@@ -39,14 +36,16 @@ same_length c = search rules
 returns : tie.Need-returns
 returns c =
     let put = c.before.before.put in
-    let at-narrow2 = c.before.before.before.before.before in
-    let narrow2 = at-narrow2.narrow2 in
-    let at-write-wide = at-narrow2.before.before.before.before in
-    let at-start = at-write-wide.before.before.before.before in
-    let is = narrow2.ensures ∙ ap (λ (s : List ℕ). narrowed s) at-write-wide.write-wide.ensures in
+    let at-narrowed = c.before.before.before.before.before in
+    let the-narrowed = at-narrowed.narrowed in
+    let write-wide = at-narrowed.before.before.before.write-wide in
+    let at-start = at-narrowed.before.before.before.before.before.before.before in
+    let args = at-start.args in
+    let line = args.line.now in
+    let is = the-narrowed.ensures ∙ ap (λ (s : List ℕ). narrowed s) write-wide.ensures in
     put.ensures
-    ∙ put_all narrow2.new.1.0 at-start.args.line.now
-    (ap (λ (s : List ℕ). length s) is ∙ narrow_length (for_load at-start.args.rec.now) ∙ sym at-start.requires.1)
+    ∙ put_all the-narrowed.result line
+    (ap (λ (s : List ℕ). length s) is ∙ narrow_length (for_load args.rec.now) ∙ sym at-start.requires.1)
     ∙ is
 
 pub write-narrow-spec : {M : Type 1} → statement M
@@ -55,8 +54,8 @@ write-narrow-spec =
     (tie.spec
     slice-aggregate-write-wide
     write-wide-requires
-    slice-aggregate-narrow
-    narrow-requires
+    slice-aggregate-narrowed
+    narrowed-requires
     slice-aggregate-put
     put-requires
     same_length

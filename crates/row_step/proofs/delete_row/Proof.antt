@@ -6,7 +6,8 @@ use lib.ListN.{length}
 use borrow.Author.Rules.{rules}
 use Rattle.rules.specs.declared.Sought.{Sought}
 use Rattle.rules.specs.Walks.{first}
-use Rattle.rules.specs.Rows.{find_same, find_entry, same_at, row_step}
+use Rattle.rules.specs.Rows.{find_same, find_entry, same_at}
+use Rattle.row_step.specs.Rowing.{row_step}
 use Rattle.rules.proofs.WalkLaws.{find_some}
 use Rattle.row_step.proofs.delete_row.Tie as tie
 use Rattle.row_step.proofs.delete_row.Statement.{statement}

@@ -7,7 +7,8 @@ use native.Mathlib.Omega.{arith}
 use borrow.Author.Rules.{rules}
 use Rattle.rules.specs.declared.Sought.{Sought}
 use Rattle.rules.specs.Walks.{first}
-use Rattle.rules.specs.Rows.{find_clash, find_vacant, vacant_at, row_step}
+use Rattle.rules.specs.Rows.{find_clash, find_vacant, vacant_at}
+use Rattle.row_step.specs.Rowing.{row_step}
 use Rattle.rules.proofs.WalkLaws.{find_some}
 use Rattle.row_step.proofs.insert_row.Tie as tie
 use Rattle.row_step.proofs.insert_row.Statement.{statement}

@@ -17,6 +17,15 @@ invariant-loop rec from wide narrow all₀ k₀ all k = (k ≤ 37) × (all ≡ a
 abbrev decreases-loop : tie.decreases-loop
 decreases-loop rec from wide narrow all₀ k₀ all k = 37 - k
 
+slice-aggregate-from : tie.Need-slice-aggregate-from invariant-loop decreases-loop
+slice-aggregate-from c = search rules
+
+slice-aggregate-wide : tie.Need-slice-aggregate-wide invariant-loop decreases-loop
+slice-aggregate-wide c = search rules
+
+slice-aggregate-narrow : tie.Need-slice-aggregate-narrow invariant-loop decreases-loop
+slice-aggregate-narrow c = search rules
+
 loop-holds : tie.Need-loop-init invariant-loop decreases-loop
 loop-holds c = (omega arith, refl)
 
@@ -93,6 +102,9 @@ does-narrow-spec =
     (tie.spec
     invariant-loop
     decreases-loop
+    slice-aggregate-from
+    slice-aggregate-wide
+    slice-aggregate-narrow
     loop-holds
     number-of-requires
     number-of-requires-2

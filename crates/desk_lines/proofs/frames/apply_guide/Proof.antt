@@ -1,5 +1,5 @@
--- taking::apply_guide gets the collected bytes and 325 answers of 0, as guide_take has them; guide_laid lays that take out, both stores as
--- it left them. taken_fits bounds refusal and records, as say::taken asks.
+-- taking::apply_guide gets the collected bytes and 325 answers of 0, as guide_take has them; guide_laid lays that take out, the register as
+-- it was. taken_fits bounds refusal and records, as say::taken asks.
 use mathlib.Core.Path.{◌≡◌}
 use Prim.Native.Nat.{◌-◌}
 use native.Mathlib.Omega.{arith}
@@ -31,16 +31,14 @@ slice-aggregate-taken c = search rules
 
 taken-requires : tie.Need-taken-requires
 taken-requires c κs =
-    let at-apply-guide = c.before.before.before.before.before.before.before in
-    let apply-guide = at-apply-guide.apply-guide in
-    let the-at-start = at-apply-guide.before.before.before.before.before.before.before.before.before in
-    let pre = the-at-start.requires in
-    let m = the-at-start.args.m in
+    let apply-guide = c.before.before.before.before.before.apply-guide in
+    let at-start = c.before.before.before.before.before.before.before.before.before.before.before.before.before.args in
+    let m = at-start.m in
     let e : m.collected - 0 ≡ m.collected = omega arith in
     let q = rw e at apply-guide.ensures in
-    let h = taken_fits Guide (record { register = the-at-start.args.register.now; guide = the-at-start.args.guide.now })
-    (take m.collected the-at-start.args.collection.now) m.guide q.0 apply-guide.auto.1.1.1.0 in
-    (h.0, (h.1, pre.1))
+    let h = taken_fits Guide (record { register = at-start.register.now; guide = at-start.guide.now })
+    (take m.collected at-start.collection.now) m.guide q.0 apply-guide.auto.1.1.1.0 in
+    (h.0, (h.1, search rules))
 
 emptied-requires : tie.Need-emptied-requires
 emptied-requires c κs = search rules
@@ -51,21 +49,17 @@ same_length c = search rules
 same-length-2 : tie.Need-same-length-2
 same-length-2 c = search rules
 
-same-length-3 : tie.Need-same-length-3
-same-length-3 c = search rules
-
 returns : tie.Need-returns
 returns c =
     let taken = c.before.before.before.taken in
-    let at-apply-guide = c.before.before.before.before.before.before.before.before.before.before.before in
-    let apply-guide = at-apply-guide.apply-guide in
-    let at-start = at-apply-guide.before.before.before.before.before.before.before.before.before.args in
+    let at-apply-guide = c.before.before.before.before.before.before.before.before.before in
+    let at-start = at-apply-guide.before.before.before.before.before.before.before.before.args in
     let m = at-start.m in
     let e : m.collected - 0 ≡ m.collected = omega arith in
-    let q = rw e at apply-guide.ensures in
+    let q = rw e at at-apply-guide.apply-guide.ensures in
     λ l ready. rw c.emptied.ensures
     (guide_laid m at-start.register.now at-start.guide.now at-start.collection.now l at-start.out.now ready _ _ _ _
-    taken.ensures _ _ q)
+    taken.ensures _ q)
 
 pub apply-guide-spec : {M : Type 1} → statement M
 apply-guide-spec =
@@ -81,5 +75,4 @@ apply-guide-spec =
     emptied-requires
     same_length
     same-length-2
-    same-length-3
     returns)

@@ -83,7 +83,7 @@ same-length-9 c = search rules
 
 returns-4 : tie.Need-returns-4
 returns-4 c =
-    let at-apply-guide = c.before.before.before.before.before.before in
+    let at-apply-guide = c.before.before.before.before in
     let at-if4 = at-apply-guide.before.before.before.before.before in
     let if3 = at-if4.before.if3 in
     let at-start = at-if4.before.before.before.before.before.before.before.before.before.args in

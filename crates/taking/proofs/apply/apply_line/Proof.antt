@@ -1,11 +1,6 @@
--- The arm says the version, and so which record line_applied means: of Version 1 the one that widen leaves, of Version 2 the line itself.
--- apply_record's promise is then answer and register. A widened record has 512 bytes, as many as the array that is handed on (wide_length).
-use mathlib.Core.Path.{sym, ap, ◌∙◌}
-use mathlib.Core.List.{List}
-use Prim.Native.Nat.{ℕ}
-use lib.ListN.{length}
+-- The arm says the version, and so which record line_applied means: of Version 1 the one that widened gives, of Version 2 the line itself.
+-- apply_record's promise is then answer and register.
 use borrow.Author.Rules.{rules}
-use Rattle.versions.proofs.VersionLaws.{wide_length}
 use Rattle.rules.specs.Takes.{line_applied}
 use Rattle.taking.proofs.apply.apply_line.Statement.{statement}
 use Rattle.taking.proofs.apply.apply_line.Tie as tie
@@ -13,14 +8,11 @@ use Rattle.taking.proofs.apply.apply_line.Tie as tie
 enum_told : tie.Need-enum-told
 enum_told c = search rules
 
-widen-requires : tie.Need-widen-requires
-widen-requires c κs = search rules
+widened-requires : tie.Need-widened-requires
+widened-requires c κs = search rules
 
 slice-aggregate-apply-record : tie.Need-slice-aggregate-apply-record
-slice-aggregate-apply-record c =
-    let widen = c.before.before.widen in
-    let line = c.before.before.before.before.before.before.before.before.before.args.line.now in
-    sym (ap (λ (s : List ℕ). length s) widen.ensures ∙ wide_length line)
+slice-aggregate-apply-record c = search rules
 
 apply-record-requires : tie.Need-apply-record-requires
 apply-record-requires c κs = search rules
@@ -38,9 +30,9 @@ returns : tie.Need-returns
 unfolding line_applied
 returns c =
     let apply-record = c.before.before.apply-record in
-    let at-widen = c.before.before.before.before.before in
-    let the-enum-told = at-widen.before.before.enum_told in
-    rw (the-enum-told.given.1, ← at-widen.widen.ensures) apply-record.ensures
+    let at-widened = c.before.before.before.before.before in
+    let the-enum-told = at-widened.before.enum_told in
+    rw (the-enum-told.given.1, ← at-widened.widened.ensures) apply-record.ensures
 
 same-length-2 : tie.Need-same-length-2
 same-length-2 c = search rules
@@ -57,7 +49,7 @@ apply-line-spec =
     tie.close
     (tie.spec
     enum_told
-    widen-requires
+    widened-requires
     slice-aggregate-apply-record
     apply-record-requires
     enum-told-2

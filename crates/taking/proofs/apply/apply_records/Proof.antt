@@ -3,12 +3,13 @@
 -- keeps the count in 32 bits.
 use mathlib.Core.Path.{◌≡◌, ◌∙◌, refl, ap}
 use mathlib.Core.Logic.{⊎_elim}
-use Prim.Native.Nat.{◌-◌}
+use mathlib.Core.List.{List}
+use Prim.Native.Nat.{◌-◌, ℕ}
 use native.Mathlib.Omega.{arith}
 use lib.ListN.{length}
 use borrow.Author.Rules.{rules}
 use Rattle.rules.specs.Takes.{Stores, line_applied}
-use Rattle.taking.proofs.LoopLaws.{Turned, turned_none, turned_length, turned_more, turned_all, same_stores, count_zero, count_other}
+use Rattle.taking.proofs.LoopLaws.{Turned, turned_none, turned_length, turned_more, turned_all, count_zero, count_other}
 use Rattle.rules.specs.declared.Kind.TheVariants.{Data}
 use Rattle.taking.proofs.apply.apply_records.Tie as tie
 use Rattle.taking.proofs.apply.apply_records.Statement.{statement}
@@ -41,8 +42,17 @@ apply-line-requires c κs = search rules
 
 slice-write-answers : tie.Need-slice-write-answers invariant-loop decreases-loop
 slice-write-answers c =
-    let inv = c.before.before.before.before.before.before.loop.invariant in
-    omega (arith, turned_length inv.0, inv.0.room)
+    let at-loop = c.before.before.before.before.before.before in
+    let at-start = at-loop.before.before.before.before.before.args in
+    let kind = Data at-start.version in
+    let guide = at-start.guide.now in
+    omega (
+      arith,
+      turned_length kind at-start.h at-start.file.now (record { register = at-start.register.now; guide = guide })
+          at-start.answers.now at-start.n (record { register = at-loop.loop.register; guide = guide }) at-loop.loop.answers
+          at-loop.loop.done at-loop.loop.i at-loop.loop.invariant.0,
+      at-loop.loop.invariant.0.room,
+    )
 
 add_done : tie.Need-overflow-add-done invariant-loop decreases-loop
 add_done c =
@@ -67,10 +77,15 @@ loop-again c =
     let line_at_lem = at-apply-line.before.line_at_lem in
     let loop-test = at-apply-line.before.before.before.loop-test in
     let at-loop = at-apply-line.before.before.before.before in
-    let guide = at-loop.before.before.before.before.before.args.guide.now in (
-      turned_more at-loop.loop.invariant.0 apply-line.result c.if1.done (record { register = apply-line.new.1.0; guide = guide })
-          loop-test.true (rw line_at_lem.ensures at apply-line.ensures.0)
-          (same_stores (rw line_at_lem.ensures at apply-line.ensures.1) refl)
+    let at-start = at-loop.before.before.before.before.before.args in
+    let kind = Data at-start.version in
+    let guide = at-start.guide.now in (
+      turned_more kind at-start.h at-start.file.now (record { register = at-start.register.now; guide = guide })
+          at-start.answers.now at-start.n (record { register = at-loop.loop.register; guide = guide }) at-loop.loop.answers
+          at-loop.loop.done at-loop.loop.i at-loop.loop.invariant.0 apply-line.result c.if1.done
+          (record { register = apply-line.new.1.0; guide = guide }) loop-test.true
+          (rw line_at_lem.ensures at apply-line.ensures.0)
+          (ap (λ (x : List ℕ). record { register = x; guide = guide }) (rw line_at_lem.ensures at apply-line.ensures.1))
           (⊎_elim (λ w. count_zero _ _ _ w.0.taken w.1) (λ w. count_other _ _ _ w.0.left w.1) c.if1.branch),
       apply-line.auto.1.0 ∙ at-loop.loop.invariant.1,
     )
@@ -79,12 +94,25 @@ same_length : tie.Need-same-length invariant-loop decreases-loop
 same_length c = c.before.loop.invariant.1
 
 same-length-2 : tie.Need-same-length-2 invariant-loop decreases-loop
-same-length-2 c = turned_length c.before.loop.invariant.0
+same-length-2 c =
+    let at-loop = c.before in
+    let at-start = at-loop.before.before.before.before.before.args in
+    let kind = Data at-start.version in
+    let guide = at-start.guide.now in
+    turned_length kind at-start.h at-start.file.now (record { register = at-start.register.now; guide = guide })
+    at-start.answers.now at-start.n (record { register = at-loop.loop.register; guide = guide }) at-loop.loop.answers
+    at-loop.loop.done at-loop.loop.i at-loop.loop.invariant.0
 
 returns : tie.Need-returns invariant-loop decreases-loop
 returns c =
-    let inv = c.before.loop.invariant in
-    let a = turned_all inv.0 c.loop-test.false in
+    let at-loop = c.before in
+    let inv = at-loop.loop.invariant in
+    let at-start = at-loop.before.before.before.before.before.args in
+    let kind = Data at-start.version in
+    let guide = at-start.guide.now in
+    let a = turned_all kind at-start.h at-start.file.now (record { register = at-start.register.now; guide = guide })
+    at-start.answers.now at-start.n (record { register = at-loop.loop.register; guide = guide }) at-loop.loop.answers
+    at-loop.loop.done at-loop.loop.i inv.0 c.loop-test.false in
     (omega (arith, inv.0.few, inv.0.within), (a.0, (ap (λ (x : Stores). x.register) a.1.0, a.1.1)))
 
 pub apply-records-spec : {M : Type 1} → statement M

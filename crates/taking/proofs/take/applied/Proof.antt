@@ -6,8 +6,8 @@ use Rattle.taking.proofs.take.applied.Statement.{statement}
 cast-records : tie.Need-overflow-cast-records
 cast-records c = search rules
 
-sub-t7 : tie.Need-overflow-sub-t7
-sub-t7 c = search rules
+sub-t6 : tie.Need-overflow-sub-t6
+sub-t6 c = search rules
 
 number-requires : tie.Need-number-requires
 number-requires c κs = search rules
@@ -16,4 +16,4 @@ returns : tie.Need-returns
 returns c = rw c.number.ensures
 
 pub applied-spec : {M : Type 1} → statement M
-applied-spec = tie.close (tie.spec cast-records sub-t7 number-requires returns)
+applied-spec = tie.close (tie.spec cast-records sub-t6 number-requires returns)

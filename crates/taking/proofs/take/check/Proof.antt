@@ -1,12 +1,13 @@
 -- A check goes by what check_file says (q). Where that refuses, check_refused makes the definition what a refused file returns; where it
--- says good, check_good makes it what a passed file returns, and good_bounds bounds its number of lines.
+-- says good, check_good makes it what a passed file returns, and good_lines bounds its number of lines.
 use mathlib.Core.Path.{◌≡◌, ◌∙◌, sym}
 use lib.ListN.{length}
 use borrow.Author.Rules.{rules}
 use Rattle.layout.specs.Counters.{given_cycle}
 use Rattle.rules.specs.Takes.{Stores, checked, refused_file}
+use Rattle.rules.proofs.GoodLaws.{good_file_lem}
 use Rattle.rules.proofs.CheckLaws.{check_refused, check_good}
-use Rattle.taking.proofs.EndLaws.{good_bounds}
+use Rattle.taking.proofs.LoopLaws.{good_lines}
 use Rattle.taking.proofs.take.check.Tie as tie
 use Rattle.taking.proofs.take.check.Statement.{statement}
 
@@ -33,11 +34,16 @@ passed-requires c κs =
     let lines-in = c.lines-in in
     let enum_told = c.before.enum_told in
     let at-check-file = c.before.before.before in
+    let check-file = at-check-file.check-file in
     let given = at-check-file.before.given in
     let at-start = at-check-file.before.before.before.before.before.before.args in
+    let kind = at-start.kind in
+    let file = at-start.file.now in
     let s : Stores = record { register = at-start.register.now; guide = at-start.guide.now } in
-    (good_bounds at-start.kind s at-start.file.now at-start.answers.now at-start.last given.ensures
-    at-check-file.check-file.ensures enum_told.given.1 lines-in.ensures).0
+    let room = length at-start.answers.now in
+    let last = given_cycle at-start.last in
+    let q : check-file.result ≡ checked kind s file room last = rw given.ensures at check-file.ensures in
+    rw lines-in.ensures (good_lines kind file (good_file_lem kind s file room last _ (sym q ∙ enum_told.given.1)).long)
 
 returns : tie.Need-returns
 unfolding refused_file
