@@ -1,5 +1,7 @@
 // The C face of checks and applies, the load file, the conversion and the tagged record: nothing but calls. A name with _v1 means Version 1
 // of the data record, one without means Version 2.
+#![tactic(auto)]
+
 ghost use Rattle.versions.specs.declared.Version.TheVariants.{One, Two};
 ghost use Rattle.rules.specs.declared.Kind.TheVariants.{Data, Guide};
 ghost use Rattle.rules.specs.Takes.{TakesData, TakesGuide};

@@ -1,5 +1,7 @@
 // The days of the years 1970 to 2069: named by six bytes MMDDYY, counted from 010170 as 0, and kept in four bytes of a slot.
 // Nothing outside this crate knows the formula.
+#![tactic(auto)]
+
 ghost use Rattle.std.specs.Prelude.{◌≡◌, true, ◌≤◌, leb};
 ghost use Rattle.calendar.specs.Calendar.{leap, month_days, days_before, years_of, day_number, day_from, day_of, no_later};
 ghost use Rattle.calendar.specs.Calendar.{stored_day, day_bytes, is_before, is_past, on_calendar};
@@ -8,21 +10,21 @@ ghost use Rattle.calendar.specs.Former.{day_by, formerly, anew};
 use text::Spelled;
 
 // A day number. It is made only where a date field or the four bytes of a slot are read, or a stored day is counted anew.
-#[derive(Drop)]
+#[derive(Clone, Copy)]
 pub struct Day(u32);
 
 // A day number in a slot, the high byte first.
 pub type DayBytes = [u8; 4];
 
 // What six bytes name.
-#[derive(Drop)]
+#[derive(Clone, Copy)]
 pub enum Date {
     Day(Day),
     NoDate,
 }
 
 // How dates are read: as now, or as they were before, when each year was 20YY and 010100 was day 0.
-#[derive(Drop)]
+#[derive(Clone, Copy)]
 pub enum Reading {
     Present,
     Former,

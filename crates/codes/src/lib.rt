@@ -1,4 +1,6 @@
 // The codes of data records and guide rows, and what each of them asks.
+#![tactic(auto)]
+
 ghost use Rattle.std.specs.Prelude.{◌≡◌};
 ghost use Rattle.rules.specs.Records.{coded_of, filed_of, is_insert, is_migrate, stores, is_own, state_after};
 ghost use Rattle.rules.specs.Rows.{row_code_of};

@@ -1,5 +1,7 @@
 // A register that was written before, when each year was 20YY and 010100 was day 0, becomes one of today: each used slot's day is counted
 // anew.
+#![tactic(auto)]
+
 ghost use Rattle.std.specs.Prelude.{◌≡◌};
 ghost use Rattle.rules.specs.Walks.{sought};
 ghost use Rattle.rules.specs.Slots.{slots};

@@ -1,4 +1,6 @@
 // Whether a row covers an address, and whether two rows clash or are the same.
+#![tactic(auto)]
+
 ghost use Rattle.std.specs.Prelude.{◌≡◌, min, max};
 ghost use Rattle.layout.specs.Fields.{parity_of};
 ghost use Rattle.rules.specs.Covers.{hits, over, covers, same_street, both_allow, meet_from, meets, clash, equal_numbers, same_row};

@@ -1,5 +1,7 @@
 // One data record: the answers 11 to 20 and 0, first hit decides, and what 0 does. The number's own slot is sought first; a row only
 // for a record that is to be stored and that 11 to 17 let pass, and a spare slot only where 18 and 19 do too and the number has none.
+#![tactic(auto)]
+
 ghost use Rattle.std.specs.Prelude.{◌≡◌, ◌&&◌, ◌<◌, length};
 ghost use Rattle.rules.specs.Walks.{first};
 ghost use Rattle.rules.specs.Slots.{is_held, slots, slot_at, with_slot, record_of, slot_of};
@@ -12,7 +14,7 @@ use layout::frame::Header;
 use rules::{Code, Filed, Found, answering, states};
 
 // What is decided of a record: its answer, and where 0 writes and under which row.
-#[derive(Drop)]
+#[derive(Clone, Copy)]
 pub struct Decided {
     pub answer: u8,
     pub slot: Found,

@@ -1,5 +1,7 @@
 // The desk program: lines of hexadecimal from standard input, lines of hexadecimal to standard output. It only reads, calls and
 // writes: what a byte of input does is `desk_lines`.
+#![tactic(auto)]
+
 ghost use Rattle.desk_rules.specs.Served.{bench_of};
 ghost use Rattle.desk.specs.Standing.{Stands};
 
@@ -7,7 +9,7 @@ use desk_lines::desk;
 use desk_rules::Marks;
 
 // What a read leaves, and whether there is more to read.
-#[derive(Drop)]
+#[derive(Clone, Copy)]
 struct Turn {
     marks: Marks,
     more: bool,

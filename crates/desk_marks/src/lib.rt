@@ -1,5 +1,7 @@
 // What the desk knows beside its lent bytes: the marks of an empty desk, those after a take, and whether there is room for all that a
 // desk may hold and say. It is a crate of its own so that its numbers are checked in seconds.
+#![tactic(auto)]
+
 ghost use Rattle.std.specs.Prelude.{◌≡◌};
 ghost use Rattle.desk_rules.specs.Desk.{empty_desk, stops_after};
 ghost use Rattle.desk_rules.specs.Served.{has_room, marks_of};

@@ -1,9 +1,11 @@
 // What the desk answers with. This crate has no function: `specs/` says what a byte of input does, in the words of the description,
 // and `proofs/` what follows from that.
 
+#![tactic(auto)]
+
 // What the desk knows beside its lent bytes: how many lines have ended, how many characters of the line and bytes of the collection
 // there are, and the last cycles taken into the guide and the register.
-#[derive(Drop)]
+#[derive(Clone, Copy)]
 pub struct Marks {
     pub lines: u32,
     pub typed: usize,
@@ -13,7 +15,7 @@ pub struct Marks {
 }
 
 // The marks afterwards, and how many bytes there are to write.
-#[derive(Drop)]
+#[derive(Clone, Copy)]
 pub struct Fed {
     pub marks: Marks,
     pub said: usize,

@@ -1,4 +1,6 @@
 // A whole line of a file: the first fault of a record, of either version, and of a row.
+#![tactic(auto)]
+
 ghost use Rattle.std.specs.Prelude.{◌≡◌, false};
 ghost use Rattle.layout.specs.Tables.{data_record, narrow_record, guide_row};
 ghost use Rattle.layout.specs.Rules.{fault_in, is_lax, record_fault, row_fault};

@@ -1,4 +1,6 @@
 // The guide's slots of 208 bytes: what is read from one, the walks over them, and all that writes one: no other crate does.
+#![tactic(auto)]
+
 ghost use Rattle.std.specs.Prelude.{◌≡◌, false, ◌&&◌, ◌≤◌, length, replicate};
 ghost use Rattle.rules.specs.Walks.{sought};
 ghost use Rattle.rules.specs.Slots.{row_slots, row_slot_at, is_present, is_vacant, row_of, row_written};

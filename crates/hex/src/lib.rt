@@ -1,4 +1,6 @@
 // Hexadecimal, read in either case and written small.
+#![tactic(auto)]
+
 ghost use Rattle.std.specs.Prelude.{◌≡◌, ◌/◌, ◌%◌, ◌<◌};
 ghost use Rattle.desk_rules.specs.Hex.{is_hex_digit, hex_value, is_hex, hex_digit, decoded, encoded};
 

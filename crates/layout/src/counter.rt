@@ -7,21 +7,21 @@ ghost use Rattle.text.specs.Text.{left_digits};
 use crate::place;
 use text::{Class, Spelled};
 
-#[derive(Drop)]
+#[derive(Clone, Copy)]
 pub struct Cycle(u32);
 
-#[derive(Drop)]
+#[derive(Clone, Copy)]
 pub struct Count(u32);
 
 // A cycle, or none: what a header's field holds, and what follows a cycle.
-#[derive(Drop)]
+#[derive(Clone, Copy)]
 pub enum Turn {
     Cycle(Cycle),
     NoCycle,
 }
 
 // A record count, or none: what a trailer's field holds.
-#[derive(Drop)]
+#[derive(Clone, Copy)]
 pub enum Tally {
     Count(Count),
     NoCount,

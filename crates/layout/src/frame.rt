@@ -3,19 +3,19 @@ use crate::counter::{Count, Cycle};
 use calendar::Day;
 
 // What a step knows of the file that its record stands in.
-#[derive(Drop)]
+#[derive(Clone, Copy)]
 pub struct Header {
     pub day: Day,
     pub cycle: Cycle,
 }
 
-#[derive(Drop)]
+#[derive(Clone, Copy)]
 pub enum Opened {
     Header(Header),
     Wrong,
 }
 
-#[derive(Drop)]
+#[derive(Clone, Copy)]
 pub enum Closed {
     Trailer(Count),
     Wrong,

@@ -5,7 +5,7 @@ use crate::{cases, dates, made, readers, rows};
 const SEMICOLON: u8 = b';';
 
 // What the items of a list are.
-#[derive(Drop)]
+#[derive(Clone, Copy)]
 pub enum Task {
     // What this field of a line holds.
     Value(Kind, usize),

@@ -2,7 +2,7 @@
 use layout::table;
 use layout::table::{HEADER, RECORD, ROW, TRAILER};
 
-#[derive(Drop)]
+#[derive(Clone, Copy)]
 pub enum Kind {
     Data,
     Guide,
@@ -25,7 +25,7 @@ fn nth(t: &[usize], i: usize) -> usize {
 }
 
 // Where a field starts, from 0, and how many bytes it has.
-#[derive(Drop)]
+#[derive(Clone, Copy)]
 pub struct Field {
     pub at: usize,
     pub size: usize,

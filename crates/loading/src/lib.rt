@@ -1,4 +1,6 @@
 // The load file: header, each held and open record in slot order, trailer. It is refused by its number, and then nothing is written.
+#![tactic(auto)]
+
 ghost use Rattle.std.specs.Prelude.{◌≡◌, [], ◌++◌, ◌+◌, ◌*◌, ◌≤◌, length, take, drop, cond};
 ghost use Rattle.layout.specs.Fields.{for_load};
 ghost use Rattle.rules.specs.Walks.{sought, find};
@@ -151,7 +153,7 @@ fn find_wide(version: Version, register: &[u8]) -> Found
 }
 
 // The number of a refusal, or 0, and the slot that is returned with it: 0 but in 27.
-#[derive(Drop)]
+#[derive(Clone, Copy)]
 struct LoadRefusal {
     number: u32,
     slot: u32,

@@ -1,4 +1,6 @@
 // The lookup that the dispatch console calls: two byte slices in, one packed number out.
+#![tactic(auto)]
+
 ghost use Rattle.std.specs.Prelude.{◌≡◌, ◌≤◌, ◌<◌};
 ghost use Rattle.rules.specs.Slots.{slots, slot_at, state_of};
 ghost use Rattle.rules.specs.Lookups.{is_number, unseen, seen_in, seen, LooksUp};

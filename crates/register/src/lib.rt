@@ -1,4 +1,6 @@
 // The register's slots of 520 bytes: what is read from one, the walks over them, and all that writes one: no other crate does.
+#![tactic(auto)]
+
 ghost use Rattle.std.specs.Prelude.{◌≡◌};
 ghost use Rattle.rules.specs.Walks.{sought};
 ghost use Rattle.rules.specs.Slots.{slots, slot_at, state_of, is_used, is_live, slot_day, record_of, restated, written};

@@ -1,4 +1,6 @@
 // One guide row: the answers 21 to 24 and 0, and what 0 does.
+#![tactic(auto)]
+
 ghost use Rattle.std.specs.Prelude.{◌≡◌, ◌<◌, length};
 ghost use Rattle.rules.specs.declared.RowCode.TheVariants.{Insert, Delete};
 ghost use Rattle.rules.specs.Slots.{row_slots, with_row_slot, row_slot_of, free_row_slot};

@@ -1,6 +1,6 @@
 -- The brief's second demand, as a statement: "A load file written from a register with no number twice, and taken as the next cycle
 -- into an empty register of enough slots under a guide whose lowest row over each entry has its ESN, brings back every held entry but
--- for its Function and Source." 2026-01: in either version. Proved in `proofs/RoundTrip`: round-trip; and run_fit, that after any run from
+-- for its Function and Source." 2026-01: in either version. Proved in `proofs/RoundTrip`: round_trip; and run_fit, that after any run from
 -- empty stores the register and its own guide are fit for it.
 -- Assumes nothing.
 use Rattle.std.specs.Prelude.{ℕ, ◌*◌, ◌≤◌, ◌<◌, ◌≡◌, ◌≢◌, List, ◌++◌, true, length, take, drop, get_or, replicate}

@@ -78,6 +78,6 @@ pub record Alike (g h : List ℕ) : Type 0 where
   pub zone : row_esn_of g ≡ row_esn_of h
 
 -- the same row is one of them: a D takes away just the house numbers that it names, with just its zone. Proved in
--- `proofs/ClashLaws`: same-alike
+-- `proofs/ClashLaws`: same_alike
 unfoldable pub SameAlike : Type 0
 SameAlike = (g h : List ℕ) → same_row g h ≡ true → Alike g h

@@ -1,6 +1,6 @@
 -- The brief's third demand, as statements: what holds after any run of files, of the stores alone and with the history of what was
 -- accepted; and last spring's incident. They are proved in `proofs/`, of n and m slots and any list of files:
--- `Keep` has demand3 : Demand3 n m (run files (start n m)); `KeepSound` has run-sound : SoundStores (run files (start n m)).stores
+-- `Keep` has demand3 : Demand3 n m (run files (start n m)); `KeepSound` has run_sound : SoundStores (run files (start n m)).stores
 -- and run_not_unsound : NoneUnsound (run files (start n m)).stores, for 1 to 4096 slots of each kind; `Incident` has
 -- incident : Guarded R G h r, for any stores, and holder : HolderKept (run files (start n m)); `Shown` has
 -- run_shows : AllShown (run files (start n m)), for 1 to 4096 slots. A file of a run is one that was applied; a check changes nothing, so

@@ -1,5 +1,7 @@
 // What the description's steps answer with. This crate has no function: `specs/` says what taking a file is, in the order and the
 // words of the description, and `proofs/` what follows from that.
+#![tactic(auto)]
+
 use calendar::Day;
 use layout::frame::Header;
 use versions::Version;
@@ -9,14 +11,14 @@ pub mod refusing;
 pub mod states;
 
 // The kind of a file: a data file of one of the two versions, or a guide file.
-#[derive(Drop)]
+#[derive(Clone, Copy)]
 pub enum Kind {
     Data(Version),
     Guide,
 }
 
 // The code of a data record.
-#[derive(Drop)]
+#[derive(Clone, Copy)]
 pub enum Code {
     Insert,
     Change,
@@ -26,14 +28,14 @@ pub enum Code {
 }
 
 // What a step reads off a data record first: its code and its date. A checked record has both.
-#[derive(Drop)]
+#[derive(Clone, Copy)]
 pub enum Filed {
     Record(Code, Day),
     NoRecord,
 }
 
 // The code of a guide row; a checked row has one.
-#[derive(Drop)]
+#[derive(Clone, Copy)]
 pub enum RowCode {
     Insert,
     Delete,
@@ -41,21 +43,21 @@ pub enum RowCode {
 }
 
 // The lowest place that passes a test.
-#[derive(Drop)]
+#[derive(Clone, Copy)]
 pub enum Found {
     At(usize),
     Nothing,
 }
 
 // The same, with the number of places looked at.
-#[derive(Drop)]
+#[derive(Clone, Copy)]
 pub struct Sought {
     pub found: Found,
     pub looked: usize,
 }
 
 // The number of a refusal; place and position are 0 but in 9.
-#[derive(Drop)]
+#[derive(Clone, Copy)]
 pub struct Refusal {
     pub number: u32,
     pub place: u32,
@@ -63,7 +65,7 @@ pub struct Refusal {
 }
 
 // What the checks of a file say: its header, or why it is refused.
-#[derive(Drop)]
+#[derive(Clone, Copy)]
 pub enum Checked {
     Good(Header),
     Refused(Refusal),
@@ -71,7 +73,7 @@ pub enum Checked {
 
 // What a take returns.
 #[repr(C)]
-#[derive(Drop)]
+#[derive(Clone, Copy)]
 pub struct Taken {
     pub refusal: u32,
     pub place: u32,
@@ -83,7 +85,7 @@ pub struct Taken {
 }
 
 // What a lookup answers; state and slot are 0 for an absent number, all but the refusal are 0 in a refusal.
-#[derive(Drop)]
+#[derive(Clone, Copy)]
 pub struct Seen {
     pub refusal: u32,
     pub state: u32,
@@ -93,7 +95,7 @@ pub struct Seen {
 
 // What writing a load file returns; the slot is 0 but in 27.
 #[repr(C)]
-#[derive(Drop)]
+#[derive(Clone, Copy)]
 pub struct Loaded {
     pub refusal: u32,
     pub bytes: u32,
@@ -103,7 +105,7 @@ pub struct Loaded {
 
 // What a conversion returns; the slot is 0 but in 28.
 #[repr(C)]
-#[derive(Drop)]
+#[derive(Clone, Copy)]
 pub struct Converted {
     pub refusal: u32,
     pub slot: u32,

@@ -1,4 +1,6 @@
 // How long the lines of a file are: of a guide file, and of a data file of either version.
+#![tactic(auto)]
+
 ghost use Rattle.std.specs.Prelude.{◌≡◌, ◌≤◌};
 ghost use Rattle.rules.specs.Takes.{shape_of};
 
@@ -7,7 +9,7 @@ use rules::Kind;
 use versions::Version;
 
 // The bytes of header and trailer, and those of a record or a row.
-#[derive(Drop)]
+#[derive(Clone, Copy)]
 pub struct Sizes {
     pub frame: usize,
     pub line: usize,

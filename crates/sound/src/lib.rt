@@ -1,4 +1,6 @@
 // Whether register and guide are sound, slot by slot; the register by either reading of its records' dates.
+#![tactic(auto)]
+
 ghost use Rattle.std.specs.Prelude.{◌≡◌, ◌<◌};
 ghost use Rattle.rules.specs.Walks.{sought};
 ghost use Rattle.rules.specs.Slots.{good_length, slot_size, slots, is_entry_code, fits_slot, day_fits, used_sound_by, is_unsound_by, unsound_by, register_sound_by, register_sound};

@@ -1,5 +1,5 @@
--- What is proved of reading and writing, as statements, for every text and every record: in `proofs/ReadsBack` reads_back and one-form,
--- in `proofs/YearLaws` same_year, in `proofs/Orders` any-order, in `proofs/RecordRead` reads_good, in_file and reads_writable, in
+-- What is proved of reading and writing, as statements, for every text and every record: in `proofs/ReadsBack` reads_back and one_form,
+-- in `proofs/YearLaws` same_year, in `proofs/Orders` any_order, in `proofs/RecordRead` reads_good, in_file and reads_writable, in
 -- `proofs/TextAnswers` reads_answer, writes_answer, one_read and one_write, in `proofs/Naming` names_pair.
 -- Assumes nothing.
 use Rattle.std.specs.Prelude.{ℕ, ◌+◌, ◌≤◌, ◌<◌, ◌≡◌, ◌≢◌, List, [], ◌∷◌, ◌++◌, true, false, length, take, drop}

@@ -1,4 +1,6 @@
 // The tagged data record of Exhibit 10: read into a Version 2 record, and written from one. A refusal writes nothing.
+#![tactic(auto)]
+
 ghost use Rattle.std.specs.Prelude.{◌≡◌};
 
 use tag_rules::Tagged;

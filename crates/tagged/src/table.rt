@@ -153,7 +153,7 @@ pub const TAGS: Tags = [
 ];
 
 // The place of a label: where its fields start, how many bytes they have, and the form of its value.
-#[derive(Drop)]
+#[derive(Clone, Copy)]
 pub struct Place {
     pub at: usize,
     pub size: usize,

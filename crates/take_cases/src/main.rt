@@ -2,6 +2,8 @@
 // what each lent part holds then; the file stdout says what it must be. Both files were made from the description alone, and not by this
 // program. They have each refusal of the four calls and each answer of both kinds, a fault in each field, each code at each state of a
 // slot, and files of several lines; some lines are of Version 1.
+#![tactic(auto)]
+
 mod calls;
 mod read;
 mod write;

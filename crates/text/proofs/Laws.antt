@@ -205,11 +205,9 @@ part_short s i n h = take_all n (drop i s) (simp length-drop (omega arith))
 
 -- a part that was lent and filled whole
 pub put_whole : (i : ℕ) (b s : List ℕ) → i + length b ≤ length s
-    → take i s ++ ((take (length b) b ++ drop (length b) (take (i + length b - i) (drop i s))) ++ drop (i + length b - i) (drop i s)) ≡ put_at i b s
+    → take i s ++ (b ++ drop (i + length b - i) (drop i s)) ≡ put_at i b s
 unfolding put_at
-put_whole i b s h =
-    let e : length (take (length b) (drop i s)) ≤ length b = simp (length-take, length-drop) (omega arith) in
-    rw (le-leb _ _ h, take-length b, add-sub_cancel_left, drop_of_length-le (take (length b) (drop i s)) e, append-nil, drop-drop)
+put_whole i b s h = rw (le-leb _ _ h, add-sub_cancel_left, drop-drop)
 
 pub put_not : (i : ℕ) (b s : List ℕ) → length s < i + length b → s ≡ put_at i b s
 unfolding put_at

@@ -1,11 +1,13 @@
 // Parts of a line of bytes: classes of bytes, blank, runs of a class, the number that digits spell, whether two parts are
 // the same, and what is written into a part. Each loop is written and proved once, and every other crate calls it.
+#![tactic(auto)]
+
 ghost use Rattle.std.specs.Prelude.{◌≡◌, [], ◌∷◌, ◌+◌, ◌≤◌, ◌<◌, ◌^◌, length, drop, get_or, replicate};
 ghost use Rattle.text.specs.Text.{in_class, all_in, all_equal, blank, run_of, runs_of, digit_of, value_of, spelled};
 ghost use Rattle.text.specs.Text.{same_bytes, member_of, all_of, trim_of, part, there, eight_same, put_at, digits, width, among_spaces, left_digits, right_digits};
 
 // The classes of bytes that the field rules name; and every byte but `|`, which parts a tagged text.
-#[derive(Drop)]
+#[derive(Clone, Copy)]
 pub enum Class {
     Printable,
     Space,
@@ -153,7 +155,7 @@ fn value(f: &[u8]) -> u32
 }
 
 // What a field of digits spells: a number, or none.
-#[derive(Drop)]
+#[derive(Clone, Copy)]
 pub enum Spelled {
     Number(u32),
     NoNumber,
@@ -334,7 +336,7 @@ pub fn put(s: &mut [u8], i: usize, b: &[u8])
     if i <= s.len() {
         if b.len() <= s.len() - i {
             let e = i + b.len();
-            bytes::copy(b, &mut s[i..e]);
+            s[i..e].copy_from_slice(b);
         }
     }
 }

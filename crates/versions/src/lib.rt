@@ -1,4 +1,6 @@
 // The two versions of a data record, 2026-01: a record of Version 1 as one of Version 2, and back.
+#![tactic(auto)]
+
 ghost use Rattle.std.specs.Prelude.{◌≡◌, ◌<◌, length, get_or};
 ghost use Rattle.versions.specs.Versions.{fields, widened, narrowed, narrows};
 
@@ -7,7 +9,7 @@ use layout::{place, table};
 mod spans;
 
 // Which layout the records of a data file have: the 240 bytes of document 003, Exhibit 1, or our 512.
-#[derive(Drop)]
+#[derive(Clone, Copy)]
 pub enum Version {
     One,
     Two,

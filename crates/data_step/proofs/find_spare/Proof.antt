@@ -1,4 +1,4 @@
--- orElse splits on what find_free found, as the arms do: that slot itself, else whatever find_reusable promises.
+-- or_else splits on what find_free found, as the arms do: that slot itself, else whatever find_reusable promises.
 use mathlib.Core.Path.{ap}
 use borrow.Author.Rules.{rules}
 use Rattle.rules.specs.declared.Sought.{Sought}

@@ -1,5 +1,5 @@
 -- The lent part comes back as the slot of with_slot (place_back). A slot below the end has 520 bytes, so what restate promises is
--- slotOf with the record that stood there (restated_slot).
+-- slot_of with the record that stood there (restated_slot).
 use mathlib.Core.Path.{◌∙◌, ap}
 use borrow.Author.Rules.{rules}
 use Rattle.rules.specs.Slots.{slot_at, with_slot, restated}

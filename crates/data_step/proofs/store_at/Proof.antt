@@ -1,5 +1,5 @@
 -- The lent part comes back as the slot of with_slot (place_back). A slot below the end has 520 bytes and what is shown has the
--- record's 512, so what write_shown promises is slotOf, with nothing of the old bytes (written_slot).
+-- record's 512, so what write_shown promises is slot_of, with nothing of the old bytes (written_slot).
 use mathlib.Core.Path.{◌∙◌, ap}
 use borrow.Author.Rules.{rules}
 use Rattle.rules.specs.Slots.{slot_at, with_slot, written}

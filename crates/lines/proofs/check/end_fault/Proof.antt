@@ -1,4 +1,4 @@
--- end_in's answer is endIn, which wants at least one digit: a number leaves 0, and NoNumber the field's start.
+-- end_in's answer is end_in, which wants at least one digit: a number leaves 0, and NoNumber the field's start.
 use borrow.Author.Rules.{rules}
 use Rattle.layout.specs.Rules.{end_fault}
 use Rattle.lines.proofs.check.end_fault.Tie as tie

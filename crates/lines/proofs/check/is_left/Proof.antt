@@ -1,5 +1,5 @@
 -- A first byte that is no space, or no byte, makes the run of spaces 0 (no_spaces_at); a space makes it more (spaces_at), and then
--- only is_blank's answer is left of left_justified.
+-- only is_blank's answer is left of left-justified.
 use Rattle.text.proofs.PartLaws.{no_spaces_at, spaces_at}
 use borrow.Author.Rules.{rules}
 use Rattle.lines.proofs.check.is_left.Statement.{statement}

@@ -1,4 +1,4 @@
--- count_in's answer is countOf; is_tally forgets the count and keeps only that there is one, as the two ways out do.
+-- count_in's answer is count_of; is_tally forgets the count and keeps only that there is one, as the two ways out do.
 use borrow.Author.Rules.{rules}
 use Rattle.layout.specs.Rules.{is_tally}
 use Rattle.lines.proofs.check.is_tally.Tie as tie

@@ -1,4 +1,4 @@
--- same_frame is the same two comparisons, date first; what date and name give of each line is put in for date_of and nameOf.
+-- same_frame is the same two comparisons, date first; what date and name give of each line is put in for date_of and name_of.
 use borrow.Author.Rules.{rules}
 use Rattle.layout.specs.Frames.{same_frame}
 use Rattle.lines.proofs.frame.is_same_frame.Tie as tie

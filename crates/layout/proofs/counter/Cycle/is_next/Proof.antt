@@ -1,4 +1,4 @@
--- next promises nextOf: where there is none is_next_of is false, and else the numbers of the two cycles are compared on both sides.
+-- next promises next_of: where there is none is_next_of is false, and else the numbers of the two cycles are compared on both sides.
 use borrow.Author.Rules.{rules}
 use Rattle.layout.proofs.counter.Cycle.is_next.Tie as tie
 use Rattle.layout.proofs.counter.Cycle.is_next.Statement.{statement}

@@ -1,4 +1,4 @@
--- Below 999999, at it and above it are the three cases of nextOf, in its order; in the first, one more still fits in 32 bits.
+-- Below 999999, at it and above it are the three cases of next_of, in its order; in the first, one more still fits in 32 bits.
 use borrow.Author.Rules.{rules}
 use borrow.Author.Tests.{eq-eqb, ne_eqb, lt-ltb, le-ltb}
 use Rattle.layout.proofs.counter.Cycle.next.Tie as tie

@@ -1,0 +1,15 @@
+-- As in put_left, with length - w for the start: where the width fits nothing falls below 0, and the digits end where s does.
+use borrow.Author.Tests.{le-leb, lt-leb}
+use Rattle.text.specs.Text.{right_digits}
+use Rattle.text.proofs.put_right.Goals as goal
+
+pub returns-then-w-s : goal.returns-then-w-s
+unfolding right_digits
+returns-then-w-s c =
+    let if1 = c.if-w-s in
+    let width_of_lem = c.width_of-w in
+    rw (← width_of_lem.ensures.0, le-leb _ _ if1.true) c.put_among_spaces.ensures
+
+pub returns-else-w-s : goal.returns-else-w-s
+unfolding right_digits
+returns-else-w-s c = rw (← c.width_of-w.ensures.0, lt-leb _ _ c.if-w-s.false)
