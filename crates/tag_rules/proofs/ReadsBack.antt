@@ -11,7 +11,7 @@ use native.Mathlib.Decide.{dec_lt, ℕ_discrete}
 use lib.Dec.{leb, eqb}
 use lib.ListN.{length, take, drop, get_or, replicate, length-replicate, length-append, length-take}
 use lib.Seq.{take_at, get_or_at}
-use borrow.Author.Tests.{eqb-true, eqb-false, le-leb, le-ltb, ltb-false, not_false}
+use borrow.Author.Tests.{eqb-true, eqb-false, le-leb, le-ltb, ltb-false, not-false}
 use Rattle.text.specs.declared.Class.TheVariants.{Printable, Unbarred}
 use Rattle.text.specs.Text.{all_in, blank, part, spaces}
 use Rattle.text.proofs.Laws.{and_left, and_right, or_right}
@@ -109,7 +109,7 @@ module _ (r : List ℕ) (l : length r ≡ 512) (good : record_fault data_record 
   forms k h =
       let o = find (unformed_at r) 28 in
       let n = and_right (is_bare r) (is_nothing o) (and_right (all_in Unbarred r) (is_bare r && is_nothing o) form) in
-      not_false (formed (form_at k) (span_of k r)) (find_none (unformed_at r) 28 (is_nothing_lem o n) k h)
+      not-false (formed (form_at k) (span_of k r)) (find_none (unformed_at r) 28 (is_nothing_lem o n) k h)
 
   abbrev walk : Draft
   walk = all_taken (pairs_of (pairs_to r 28)) blank_draft
@@ -168,11 +168,11 @@ writable r out e =
     let f = first_zero (write_table r (length out)) refl e in
     let long = eqb (length r) 512 in
     let good = eqb (record_fault data_record r) 0 in
-    let both : (long && good) ≡ true = not_false (long && good) f.0 in
+    let both : (long && good) ≡ true = not-false (long && good) f.0 in
     record {
       long = eqb-true (length r) 512 (and_left long good both);
       good = eqb-true (record_fault data_record r) 0 (and_right long good both);
-      form = not_false (has_form r) f.1.0;
+      form = not-false (has_form r) f.1.0;
       room = ltb-false (length out) (length (tagged_of r)) f.1.1.0;
     }
 

@@ -9,7 +9,7 @@ use native.Mathlib.Omega.{arith}
 use lib.Dec.{leb, eqb}
 use lib.ListN.{length}
 use lib.Seq.{take_at}
-use borrow.Author.Tests.{eqb-true, ne_eqb, leb-true, not_true}
+use borrow.Author.Tests.{eqb-true, ne_eqb, leb-true, not-true}
 use Rattle.text.specs.declared.Class.TheVariants.{Unbarred}
 use Rattle.text.specs.Text.{all_in, same_bytes}
 use Rattle.text.proofs.Laws.{and_left, and_right, same_refl}
@@ -51,7 +51,7 @@ module _ (k : ℕ) (h : k < 28) where
       let a = eqb (length (label_at k)) 3 in
       let b = all_in Unbarred (label_at k) in
       let t = every_at (apart k) 28 j (and_right (a && b) (every (apart k) 28) test) l in
-      not_true (same_bytes (label_at j) (label_at k)) (rw (ne_eqb j k n) at t)
+      not-true (same_bytes (label_at j) (label_at k)) (rw (ne_eqb j k n) at t)
 
   -- the row of a pair with this label
   pub tag_of_lem : (v : List ℕ) → tag_of (label_at k ++ v) ≡ At k

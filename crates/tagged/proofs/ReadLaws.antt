@@ -10,7 +10,7 @@ use native.Mathlib.Omega.{arith}
 use lib.Dec.{leb, ltb, eqb}
 use lib.ListN.{length, take, drop, get_or, set, take-append-drop, length-take, length-replicate}
 use lib.Seq.{take_at, drop_at, drop-drop, length-take-le}
-use borrow.Author.Tests.{eqb-true, leb-true, lt-ltb, le-ltb, eq-eqb, ne_eqb, not_false}
+use borrow.Author.Tests.{eqb-true, leb-true, lt-ltb, le-ltb, eq-eqb, ne_eqb, not-false}
 use Rattle.text.specs.declared.Class.TheVariants.{Unbarred}
 use Rattle.text.specs.Text.{blank, run_of, part, spaces, put_at}
 use Rattle.text.proofs.Laws.{and_left, and_right, and_true, left_at, turn, ended, same_true, same_lengths, part_is, part_short, rest_is}
@@ -108,7 +108,7 @@ module _ (p : List ℕ) (l : 3 ≤ length p) (low : (get_or p 0 0 ≤ 255) × ((
       let u = leb (letter k 0) 255 in
       let v = leb (letter k 1) 255 in
       let w = leb (letter k 2) 255 in
-      let t = not_false (spelt k) (find_none (λ k. not (spelt k)) 28 all_spelt k h) in
+      let t = not-false (spelt k) (find_none (λ k. not (spelt k)) 28 all_spelt k h) in
       let bytes = and_right same (u && (v && w)) t in
       let first = leb-true (letter k 0) 255 (and_left u (v && w) bytes) in
       let second = leb-true (letter k 1) 255 (and_left v w (and_right u (v && w) bytes)) in
@@ -317,7 +317,7 @@ none_written = refl
 
 pub blank_clear : Clear none_seen blank_line
 unfolding Clear
-blank_clear k h u = not_false (blank (span_of k blank_line)) (find_none (λ k. not (blank (span_of k blank_line))) 28 none_written k h)
+blank_clear k h u = not-false (blank (span_of k blank_line)) (find_none (λ k. not (blank (span_of k blank_line))) 28 none_written k h)
 
 module _ (s out : List ℕ) (b : Bool) (e : b ≡ is_framed s) where
   pub frame_refused : (t : Tagged) → not b ≡ true → t ≡ refusal 33 0 → ReadsText s out t out
@@ -326,7 +326,7 @@ module _ (s out : List ℕ) (b : Bool) (e : b ≡ is_framed s) where
 
   module _ (f : not b ≡ false) where
     framed : is_framed s ≡ true
-    framed = sym e ∙ not_false b f
+    framed = sym e ∙ not-false b f
 
     pub frame_long : 4 ≤ length s
     unfolding is_framed

@@ -9,7 +9,7 @@ use Prim.Native.Nat.{ℕ, zero, suc, ◌-◌, ◌≤◌}
 use native.Mathlib.Omega.{arith}
 use lib.Dec.{leb, ltb, eqb}
 use lib.ListN.{length}
-use borrow.Author.Tests.{eqb-true, leb-true, ltb-true, eq-eqb, ne_eqb, not_true}
+use borrow.Author.Tests.{eqb-true, leb-true, ltb-true, eq-eqb, ne_eqb, not-true}
 use Rattle.text.specs.declared.Class.{Class}
 use Rattle.text.specs.declared.Class.TheVariants.{Printable, Space}
 use Rattle.text.specs.declared.Spelled.{Spelled}
@@ -44,8 +44,8 @@ passes_long n r lax f h = whole_long n f (and_left (is_whole n f) (keeps_alone r
 pub fault_alone : (at n r : ℕ) (lax : Bool) (s f : List ℕ) → alone r ≡ true → fault_by at n r lax s f ≡ cond (passes n r lax f) 0 at
 unfolding passes fault_by house_fault end_fault
 fault_alone at n r lax s f a =
-    let h = not_true (eqb r high_end) (and_left (not (eqb r high_end)) (not (eqb r parity_letter)) a) in
-    let p = not_true (eqb r parity_letter) (and_right (not (eqb r high_end)) (not (eqb r parity_letter)) a) in
+    let h = not-true (eqb r high_end) (and_left (not (eqb r high_end)) (not (eqb r parity_letter)) a) in
+    let p = not-true (eqb r parity_letter) (and_right (not (eqb r high_end)) (not (eqb r parity_letter)) a) in
     rw (h, p) (go (is_whole n f) (eqb r house) (eqb r low_end))
   where
     number : (x : Spelled) → on_number x at (λ n. 0) ≡ cond (is_number x) 0 at

@@ -7,7 +7,7 @@ use Rattle.faults.specs.Look.{kept_at}
 use Rattle.layout.proofs.LineLaws.{never}
 use Rattle.faults.proofs.LookLaws.{field_kept}
 use borrow.Author.Rules.{rules}
-use borrow.Author.Tests.{not_false}
+use borrow.Author.Tests.{not-false}
 use Rattle.faults.proofs.look.has_good_comments.Statement.{statement}
 use Rattle.faults.proofs.look.has_good_comments.Tie as tie
 
@@ -65,12 +65,12 @@ returns-7 c =
     let if1 = at-is-short-text-at2.before.if1 in
     let is-short-text-at = at-is-short-text-at2.before.before.is-short-text-at in
     let rec = at-is-short-text-at2.before.before.before.before.args.rec.now in
-    λ h lax p. let s = rec in field_kept data_record 24 lax s refl p (is-short-text-at.ensures (not_false _ if1.false) lax)
-    ∙ field_kept data_record 25 lax s refl p (at-is-short-text-at2.is-short-text-at2.ensures (not_false _ if2.false) lax)
-    ∙ field_kept data_record 26 lax s refl p (rw (sym is-there.ensures ∙ not_false _ at-if3.if3.false))
-    ∙ field_kept data_record 27 lax s refl p (is-text-at.ensures (not_false _ if4.false) lax)
-    ∙ field_kept data_record 28 lax s refl p (at-is-text-at2.is-text-at2.ensures (not_false _ if5.false) lax)
-    ∙ field_kept data_record 29 lax s refl p (at-is-middling-text-at.is-middling-text-at.ensures (not_false _ c.before.if6.false) lax)
+    λ h lax p. let s = rec in field_kept data_record 24 lax s refl p (is-short-text-at.ensures (not-false _ if1.false) lax)
+    ∙ field_kept data_record 25 lax s refl p (at-is-short-text-at2.is-short-text-at2.ensures (not-false _ if2.false) lax)
+    ∙ field_kept data_record 26 lax s refl p (rw (sym is-there.ensures ∙ not-false _ at-if3.if3.false))
+    ∙ field_kept data_record 27 lax s refl p (is-text-at.ensures (not-false _ if4.false) lax)
+    ∙ field_kept data_record 28 lax s refl p (at-is-text-at2.is-text-at2.ensures (not-false _ if5.false) lax)
+    ∙ field_kept data_record 29 lax s refl p (at-is-middling-text-at.is-middling-text-at.ensures (not-false _ c.before.if6.false) lax)
     ∙ field_kept data_record 30 lax s refl p (c.is-middling-text-at2.ensures h lax)
 
 pub has-good-comments-spec : {M : Type 1} → statement M

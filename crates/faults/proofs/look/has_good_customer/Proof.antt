@@ -7,7 +7,7 @@ use Rattle.faults.specs.Look.{kept_at}
 use Rattle.layout.proofs.LineLaws.{never}
 use Rattle.faults.proofs.LookLaws.{field_kept}
 use borrow.Author.Rules.{rules}
-use borrow.Author.Tests.{not_false}
+use borrow.Author.Tests.{not-false}
 use Rattle.faults.proofs.look.has_good_customer.Statement.{statement}
 use Rattle.faults.proofs.look.has_good_customer.Tie as tie
 
@@ -58,11 +58,11 @@ returns-6 c =
     let is-text-at = at-is-text-at2.before.before.is-text-at in
     let at-start = at-is-text-at2.before.before.before.before.args in
     λ h p. let lax = at-start.lax in let s = at-start.rec.now in field_kept data_record 11 lax s refl p
-    (is-text-at.ensures (not_false _ if1.false) lax)
-    ∙ field_kept data_record 12 lax s refl p (at-is-text-at2.is-text-at2.ensures (not_false _ if2.false) lax)
-    ∙ field_kept data_record 13 lax s refl p (is-one-at.ensures (not_false _ at-if3.if3.false))
-    ∙ field_kept data_record 14 lax s refl p (is-one-at2.ensures (not_false _ if4.false))
-    ∙ field_kept data_record 15 lax s refl p (at-is-short-text-at.is-short-text-at.ensures (not_false _ c.before.if5.false) lax)
+    (is-text-at.ensures (not-false _ if1.false) lax)
+    ∙ field_kept data_record 12 lax s refl p (at-is-text-at2.is-text-at2.ensures (not-false _ if2.false) lax)
+    ∙ field_kept data_record 13 lax s refl p (is-one-at.ensures (not-false _ at-if3.if3.false))
+    ∙ field_kept data_record 14 lax s refl p (is-one-at2.ensures (not-false _ if4.false))
+    ∙ field_kept data_record 15 lax s refl p (at-is-short-text-at.is-short-text-at.ensures (not-false _ c.before.if5.false) lax)
     ∙ field_kept data_record 16 lax s refl p (sym c.does-run-at.ensures ∙ h)
 
 pub has-good-customer-spec : {M : Type 1} → statement M

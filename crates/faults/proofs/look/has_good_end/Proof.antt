@@ -7,7 +7,7 @@ use Rattle.faults.specs.Look.{kept_at, fault_from}
 use Rattle.layout.proofs.LineLaws.{never}
 use Rattle.faults.proofs.LookLaws.{field_kept}
 use borrow.Author.Rules.{rules}
-use borrow.Author.Tests.{not_false}
+use borrow.Author.Tests.{not-false}
 use Rattle.faults.proofs.look.has_good_end.Statement.{statement}
 use Rattle.faults.proofs.look.has_good_end.Tie as tie
 
@@ -57,11 +57,11 @@ returns-6 c =
     let if1 = at-is-short-text-at2.before.if1 in
     let is-short-text-at = at-is-short-text-at2.before.before.is-short-text-at in
     let rec = at-is-short-text-at2.before.before.before.before.args.rec.now in
-    λ h lax p. let s = rec in field_kept data_record 31 lax s refl p (is-short-text-at.ensures (not_false _ if1.false) lax)
-    ∙ field_kept data_record 32 lax s refl p (at-is-short-text-at2.is-short-text-at2.ensures (not_false _ if2.false) lax)
-    ∙ field_kept data_record 33 lax s refl p (is-text-at.ensures (not_false _ at-if3.if3.false) lax)
-    ∙ field_kept data_record 34 lax s refl p (is-short-text-at3.ensures (not_false _ if4.false) lax)
-    ∙ field_kept data_record 35 lax s refl p (rw (sym at-is-there.is-there.ensures ∙ not_false _ c.before.if5.false))
+    λ h lax p. let s = rec in field_kept data_record 31 lax s refl p (is-short-text-at.ensures (not-false _ if1.false) lax)
+    ∙ field_kept data_record 32 lax s refl p (at-is-short-text-at2.is-short-text-at2.ensures (not-false _ if2.false) lax)
+    ∙ field_kept data_record 33 lax s refl p (is-text-at.ensures (not-false _ at-if3.if3.false) lax)
+    ∙ field_kept data_record 34 lax s refl p (is-short-text-at3.ensures (not-false _ if4.false) lax)
+    ∙ field_kept data_record 35 lax s refl p (rw (sym at-is-there.is-there.ensures ∙ not-false _ c.before.if5.false))
     ∙ field_kept data_record 36 lax s refl p (c.is-one-at.ensures h)
 
 pub has-good-end-spec : {M : Type 1} → statement M

@@ -7,7 +7,7 @@ use Rattle.faults.specs.Look.{kept_at}
 use Rattle.layout.proofs.LineLaws.{never}
 use Rattle.faults.proofs.LookLaws.{field_kept, field_passed, field_whole, house_passes}
 use borrow.Author.Rules.{rules}
-use borrow.Author.Tests.{not_false}
+use borrow.Author.Tests.{not-false}
 use Rattle.faults.proofs.look.has_good_number.Statement.{statement}
 use Rattle.faults.proofs.look.has_good_number.Tie as tie
 
@@ -49,10 +49,10 @@ returns-5 c =
     let if1 = at-are-all-at.before.if1 in
     let is-one-at = at-are-all-at.before.before.is-one-at in
     let rec = at-are-all-at.before.before.before.before.args.rec.now in
-    λ h lax p. let s = rec in field_kept data_record 0 lax s refl p (is-one-at.ensures (not_false _ if1.false))
-    ∙ field_kept data_record 1 lax s refl p (sym at-are-all-at.are-all-at.ensures ∙ not_false _ if2.false)
-    ∙ field_kept data_record 2 lax s refl p (sym are-all-at2.ensures ∙ not_false _ at-if3.if3.false)
-    ∙ (let q = is-house-at.ensures (not_false _ c.before.if4.false) _ in field_passed data_record 3 lax s refl
+    λ h lax p. let s = rec in field_kept data_record 0 lax s refl p (is-one-at.ensures (not-false _ if1.false))
+    ∙ field_kept data_record 1 lax s refl p (sym at-are-all-at.are-all-at.ensures ∙ not-false _ if2.false)
+    ∙ field_kept data_record 2 lax s refl p (sym are-all-at2.ensures ∙ not-false _ at-if3.if3.false)
+    ∙ (let q = is-house-at.ensures (not-false _ c.before.if4.false) _ in field_passed data_record 3 lax s refl
     (house_passes _ _ lax s _ (field_whole data_record 3 lax s refl p q.0) q.1))
     ∙ field_kept data_record 4 lax s refl p (c.is-short-text-at.ensures h lax)
 

@@ -7,7 +7,7 @@ use Rattle.faults.specs.Look.{kept_at}
 use Rattle.layout.proofs.LineLaws.{never}
 use Rattle.faults.proofs.LookLaws.{field_kept}
 use borrow.Author.Rules.{rules}
-use borrow.Author.Tests.{not_false}
+use borrow.Author.Tests.{not-false}
 use Rattle.faults.proofs.look.has_good_order.Statement.{statement}
 use Rattle.faults.proofs.look.has_good_order.Tie as tie
 
@@ -65,12 +65,12 @@ returns-7 c =
     let if1 = at-is-short-text-at.before.if1 in
     let is-text-at = at-is-short-text-at.before.before.is-text-at in
     let rec = at-is-short-text-at.before.before.before.before.args.rec.now in
-    λ h lax p. let s = rec in field_kept data_record 17 lax s refl p (is-text-at.ensures (not_false _ if1.false) lax)
-    ∙ field_kept data_record 18 lax s refl p (at-is-short-text-at.is-short-text-at.ensures (not_false _ if2.false) lax)
-    ∙ field_kept data_record 19 lax s refl p (is-middling-text-at.ensures (not_false _ at-if3.if3.false) lax)
-    ∙ field_kept data_record 20 lax s refl p (sym is-date-at.ensures ∙ not_false _ if4.false)
-    ∙ field_kept data_record 21 lax s refl p (at-is-short-text-at2.is-short-text-at2.ensures (not_false _ if5.false) lax)
-    ∙ field_kept data_record 22 lax s refl p (sym at-does-run-at.does-run-at.ensures ∙ not_false _ c.before.if6.false)
+    λ h lax p. let s = rec in field_kept data_record 17 lax s refl p (is-text-at.ensures (not-false _ if1.false) lax)
+    ∙ field_kept data_record 18 lax s refl p (at-is-short-text-at.is-short-text-at.ensures (not-false _ if2.false) lax)
+    ∙ field_kept data_record 19 lax s refl p (is-middling-text-at.ensures (not-false _ at-if3.if3.false) lax)
+    ∙ field_kept data_record 20 lax s refl p (sym is-date-at.ensures ∙ not-false _ if4.false)
+    ∙ field_kept data_record 21 lax s refl p (at-is-short-text-at2.is-short-text-at2.ensures (not-false _ if5.false) lax)
+    ∙ field_kept data_record 22 lax s refl p (sym at-does-run-at.does-run-at.ensures ∙ not-false _ c.before.if6.false)
     ∙ field_kept data_record 23 lax s refl p (c.is-one-at.ensures h)
 
 pub has-good-order-spec : {M : Type 1} → statement M

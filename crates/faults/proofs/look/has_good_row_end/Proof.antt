@@ -8,7 +8,7 @@ use Rattle.faults.specs.Look.{kept_at, fault_from}
 use Rattle.layout.proofs.LineLaws.{never}
 use Rattle.faults.proofs.LookLaws.{field_kept}
 use borrow.Author.Rules.{rules}
-use borrow.Author.Tests.{not_false}
+use borrow.Author.Tests.{not-false}
 use Rattle.faults.proofs.look.has_good_row_end.Statement.{statement}
 use Rattle.faults.proofs.look.has_good_row_end.Tie as tie
 
@@ -42,9 +42,9 @@ returns-4 c =
     let if1 = at-is-there.before.if1 in
     let does-run-at = at-is-there.before.before.does-run-at in
     let row = at-is-there.before.before.before.before.args.row.now in
-    λ h p. let lax = false in let s = row in field_kept guide_row 9 lax s refl p (sym does-run-at.ensures ∙ not_false _ if1.false)
-    ∙ field_kept guide_row 10 lax s refl p (rw (sym at-is-there.is-there.ensures ∙ not_false _ if2.false))
-    ∙ field_kept guide_row 11 lax s refl p (at-is-one-at.is-one-at.ensures (not_false _ c.before.if3.false))
+    λ h p. let lax = false in let s = row in field_kept guide_row 9 lax s refl p (sym does-run-at.ensures ∙ not-false _ if1.false)
+    ∙ field_kept guide_row 10 lax s refl p (rw (sym at-is-there.is-there.ensures ∙ not-false _ if2.false))
+    ∙ field_kept guide_row 11 lax s refl p (at-is-one-at.is-one-at.ensures (not-false _ c.before.if3.false))
     ∙ field_kept guide_row 12 lax s refl p (c.is-one-at2.ensures h)
 
 pub has-good-row-end-spec : {M : Type 1} → statement M

@@ -7,7 +7,7 @@ use Rattle.faults.specs.Look.{kept_at}
 use Rattle.layout.proofs.LineLaws.{never}
 use Rattle.faults.proofs.LookLaws.{field_kept}
 use borrow.Author.Rules.{rules}
-use borrow.Author.Tests.{not_false}
+use borrow.Author.Tests.{not-false}
 use Rattle.faults.proofs.look.has_good_row_place.Statement.{statement}
 use Rattle.faults.proofs.look.has_good_row_place.Tie as tie
 
@@ -25,7 +25,7 @@ unfolding kept_at keeps keeps_other
 returns-2 c =
     let is-named-at = c.before.before.is-named-at in
     let row = c.before.before.before.before.args.row.now in
-    λ h p. let lax = false in let s = row in field_kept guide_row 6 lax s refl p (is-named-at.ensures (not_false _ c.before.if1.false))
+    λ h p. let lax = false in let s = row in field_kept guide_row 6 lax s refl p (is-named-at.ensures (not-false _ c.before.if1.false))
     ∙ field_kept guide_row 7 lax s refl p (c.are-capitals-at.ensures h)
 
 pub has-good-row-place-spec : {M : Type 1} → statement M

@@ -7,7 +7,7 @@ use Rattle.faults.specs.Look.{kept_at}
 use Rattle.layout.proofs.LineLaws.{never}
 use Rattle.faults.proofs.LookLaws.{field_kept}
 use borrow.Author.Rules.{rules}
-use borrow.Author.Tests.{not_false}
+use borrow.Author.Tests.{not-false}
 use Rattle.faults.proofs.look.has_good_row_street.Statement.{statement}
 use Rattle.faults.proofs.look.has_good_row_street.Tie as tie
 
@@ -41,9 +41,9 @@ returns-4 c =
     let if1 = at-is-named-at.before.if1 in
     let is-direction-at = at-is-named-at.before.before.is-direction-at in
     let row = at-is-named-at.before.before.before.before.args.row.now in
-    λ h p. let lax = false in let s = row in field_kept guide_row 0 lax s refl p (is-direction-at.ensures (not_false _ if1.false) lax)
-    ∙ field_kept guide_row 1 lax s refl p (at-is-named-at.is-named-at.ensures (not_false _ if2.false))
-    ∙ field_kept guide_row 2 lax s refl p (at-is-short-text-at.is-short-text-at.ensures (not_false _ c.before.if3.false) lax)
+    λ h p. let lax = false in let s = row in field_kept guide_row 0 lax s refl p (is-direction-at.ensures (not-false _ if1.false) lax)
+    ∙ field_kept guide_row 1 lax s refl p (at-is-named-at.is-named-at.ensures (not-false _ if2.false))
+    ∙ field_kept guide_row 2 lax s refl p (at-is-short-text-at.is-short-text-at.ensures (not-false _ c.before.if3.false) lax)
     ∙ field_kept guide_row 3 lax s refl p (c.is-direction-at2.ensures h lax)
 
 pub has-good-row-street-spec : {M : Type 1} → statement M

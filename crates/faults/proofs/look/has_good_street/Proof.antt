@@ -7,7 +7,7 @@ use Rattle.faults.specs.Look.{kept_at}
 use Rattle.layout.proofs.LineLaws.{never}
 use Rattle.faults.proofs.LookLaws.{field_kept}
 use borrow.Author.Rules.{rules}
-use borrow.Author.Tests.{not_false}
+use borrow.Author.Tests.{not-false}
 use Rattle.faults.proofs.look.has_good_street.Statement.{statement}
 use Rattle.faults.proofs.look.has_good_street.Tie as tie
 
@@ -58,11 +58,11 @@ returns-6 c =
     let is-direction-at = at-is-named-at.before.before.is-direction-at in
     let at-start = at-is-named-at.before.before.before.before.args in
     λ h p. let lax = at-start.lax in let s = at-start.rec.now in field_kept data_record 5 lax s refl p
-    (is-direction-at.ensures (not_false _ if1.false) lax)
-    ∙ field_kept data_record 6 lax s refl p (at-is-named-at.is-named-at.ensures (not_false _ if2.false))
-    ∙ field_kept data_record 7 lax s refl p (is-short-text-at.ensures (not_false _ at-if3.if3.false) lax)
-    ∙ field_kept data_record 8 lax s refl p (is-direction-at2.ensures (not_false _ if4.false) lax)
-    ∙ field_kept data_record 9 lax s refl p (at-is-named-at2.is-named-at2.ensures (not_false _ c.before.if5.false))
+    (is-direction-at.ensures (not-false _ if1.false) lax)
+    ∙ field_kept data_record 6 lax s refl p (at-is-named-at.is-named-at.ensures (not-false _ if2.false))
+    ∙ field_kept data_record 7 lax s refl p (is-short-text-at.ensures (not-false _ at-if3.if3.false) lax)
+    ∙ field_kept data_record 8 lax s refl p (is-direction-at2.ensures (not-false _ if4.false) lax)
+    ∙ field_kept data_record 9 lax s refl p (at-is-named-at2.is-named-at2.ensures (not-false _ c.before.if5.false))
     ∙ field_kept data_record 10 lax s refl p (c.are-capitals-at.ensures h)
 
 pub has-good-street-spec : {M : Type 1} → statement M

@@ -4,7 +4,7 @@ use mathlib.Core.Path.{◌∙◌}
 use Rattle.faults.specs.Look.{fault_from}
 use Rattle.layout.proofs.LineLaws.{never}
 use borrow.Author.Rules.{rules}
-use borrow.Author.Tests.{not_false}
+use borrow.Author.Tests.{not-false}
 use Rattle.faults.proofs.look.is_good_record.Statement.{statement}
 use Rattle.faults.proofs.look.is_good_record.Tie as tie
 
@@ -57,11 +57,11 @@ returns-7 c =
     let if2 = at-has-good-street.before.if2 in
     let has-good-number = at-has-good-street.before.before.has-good-number in
     let lax = at-has-good-street.before.before.before.before.before.args.lax in
-    λ h p. has-good-number.ensures (not_false _ if2.false) lax p
-    ∙ at-has-good-street.has-good-street.ensures (not_false _ if3.false) p
-    ∙ has-good-customer.ensures (not_false _ at-if4.if4.false) p
-    ∙ has-good-order.ensures (not_false _ if5.false) lax p
-    ∙ at-has-good-comments.has-good-comments.ensures (not_false _ c.before.if6.false) lax p
+    λ h p. has-good-number.ensures (not-false _ if2.false) lax p
+    ∙ at-has-good-street.has-good-street.ensures (not-false _ if3.false) p
+    ∙ has-good-customer.ensures (not-false _ at-if4.if4.false) p
+    ∙ has-good-order.ensures (not-false _ if5.false) lax p
+    ∙ at-has-good-comments.has-good-comments.ensures (not-false _ c.before.if6.false) lax p
     ∙ c.has-good-end.ensures h lax p
 
 pub is-good-record-spec : {M : Type 1} → statement M

@@ -7,7 +7,7 @@ use Rattle.faults.specs.Look.{fault_from}
 use Rattle.layout.proofs.LineLaws.{never}
 use Rattle.faults.proofs.LookLaws.{there_before, field_passed, field_whole, low_passes, high_passes, parity_passes}
 use borrow.Author.Rules.{rules}
-use borrow.Author.Tests.{not_false}
+use borrow.Author.Tests.{not-false}
 use Rattle.faults.proofs.look.is_good_row.Statement.{statement}
 use Rattle.faults.proofs.look.is_good_row.Tie as tie
 
@@ -44,8 +44,8 @@ returns-5 c =
     let if2 = at-is-range.before.if2 in
     let has-good-row-street = at-is-range.before.before.has-good-row-street in
     let row = at-is-range.before.before.before.before.before.args.row.now in
-    λ h p. let s = row in let q = at-is-range.is-range.ensures (not_false _ if3.false) in has-good-row-street.ensures
-    (not_false _ if2.false) p
+    λ h p. let s = row in let q = at-is-range.is-range.ensures (not-false _ if3.false) in has-good-row-street.ensures
+    (not-false _ if2.false) p
     ∙ field_passed guide_row low false s refl
     (low_passes _ _ false s _
     (field_whole guide_row low false s refl p
@@ -54,7 +54,7 @@ returns-5 c =
     (high_passes _ _ false s _
     (field_whole guide_row high false s refl p
     (there_before s (start_of guide_row parity) 1 (start_of guide_row high) (size_of guide_row high) refl (q 0).0)) (q _).1.1.0)
-    ∙ at-has-good-row-place.has-good-row-place.ensures (not_false _ c.before.if4.false) p
+    ∙ at-has-good-row-place.has-good-row-place.ensures (not-false _ c.before.if4.false) p
     ∙ field_passed guide_row parity false s refl
     (parity_passes _ _ false s _ (field_whole guide_row parity false s refl p (q 0).0) (q _).1.1.1)
     ∙ c.has-good-row-end.ensures h p
