@@ -1,5 +1,6 @@
 -- Nine arms in the order of keeps, each opened by the number that the match names; where blank may be spared both sides of the
 -- `|` are put in. Behind nine false tests stands keeps_other's answer.
+use native.Mathlib.Omega.{arith}
 use borrow.Author.Tests.{ne_eqb}
 use Rattle.layout.specs.Rules.{keeps}
 use Rattle.lines.proofs.check.does_keep.Goals as goal
@@ -18,7 +19,7 @@ returns-in-3 c = rw c.in-3.is c.is_needed.ensures
 
 pub returns-in-4 : goal.returns-in-4
 unfolding keeps
-returns-in-4 c = rw c.in-4.keys4 c.all_of.ensures
+returns-in-4 c = rw c.in-4.is c.all_of.ensures
 
 pub returns-in-5 : goal.returns-in-5
 unfolding keeps
@@ -34,7 +35,7 @@ returns-in-8 c = rw (c.in-8.is, ← c.is_spared.ensures, ← c.all_in-in-8.ensur
 
 pub returns-in-9 : goal.returns-in-9
 unfolding keeps
-returns-in-9 c = rw (c.in-9.keys8, ← c.is_spared-in-9.ensures, ← c.all_of-in-9.ensures)
+returns-in-9 c = rw (c.in-9.is, ← c.is_spared-in-9.ensures, ← c.all_of-in-9.ensures)
 
 pub returns-in-10 : goal.returns-in-10
 unfolding keeps
@@ -42,15 +43,4 @@ returns-in-10 c = rw (c.in-10.is, ← c.is_spared-in-10.ensures, ← c.all_in-in
 
 pub returns-in_default : goal.returns-in_default
 unfolding keeps
-returns-in_default c =
-    rw (
-      ne_eqb _ _ c.in_default.rest.0.0.0.0.0.0.0.0.1,
-      ne_eqb _ _ c.in_default.rest.0.0.0.0.0.0.0.1,
-      ne_eqb _ _ c.in_default.rest.0.0.0.0.0.0.1,
-      ne_eqb _ _ c.in_default.rest.0.0.0.0.0.1,
-      ne_eqb _ _ c.in_default.rest.0.0.0.0.1,
-      ne_eqb _ _ c.in_default.rest.0.0.0.1,
-      ne_eqb _ _ c.in_default.rest.0.0.1,
-      ne_eqb _ _ c.in_default.rest.0.1,
-      ne_eqb _ _ c.in_default.rest.1,
-    ) c.keeps_other.ensures
+returns-in_default c = grind (arith, ne_eqb, c.keeps_other.ensures)

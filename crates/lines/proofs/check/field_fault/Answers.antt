@@ -6,7 +6,7 @@ use Rattle.layout.proofs.LineLaws.{whole_long, whole_clean}
 use Rattle.lines.proofs.check.field_fault.Goals as goal
 
 pub rule_fault-requires : goal.rule_fault-requires
-rule_fault-requires c κs = whole_clean _ _ (sym c.is_whole.ensures ∙ c.if-is_whole.true)
+rule_fault-requires c = whole_clean _ _ (sym c.is_whole.ensures ∙ c.if-is_whole.true)
 
 pub returns-then-is_whole : goal.returns-then-is_whole
 returns-then-is_whole c = rw (whole_long _ _ (sym c.is_whole.ensures ∙ c.if-is_whole.true)) at c.rule_fault.ensures

@@ -1,5 +1,6 @@
 -- A field of printable bytes is whole at its own length, which opens fault_by. Four rules have a fault of their own, by the match;
 -- for all others does_keep's answer chooses between 0 and the start.
+use native.Mathlib.Omega.{arith}
 use mathlib.Core.Path.{refl}
 use lib.ListN.{length}
 use borrow.Author.Tests.{eq-eqb, ne_eqb}
@@ -33,29 +34,9 @@ returns-in-18 c =
 pub returns-then-does_keep : goal.returns-then-does_keep
 unfolding fault_by is_whole
 returns-then-does_keep c =
-    let f = c.args.f.now in
-    rw (
-      eq-eqb (length f) (length f) refl,
-      c.requires,
-      ne_eqb _ _ c.in_default.rest.0.0.0.1,
-      ne_eqb _ _ c.in_default.rest.0.0.1,
-      ne_eqb _ _ c.in_default.rest.0.1,
-      ne_eqb _ _ c.in_default.rest.1,
-      ← c.does_keep.ensures,
-      c.if-does_keep.true,
-    )
+    grind (arith, ne_eqb, eq-eqb (length c.args.f.now) (length c.args.f.now) refl, c.requires, c.does_keep.ensures)
 
 pub returns-else-does_keep : goal.returns-else-does_keep
 unfolding fault_by is_whole
 returns-else-does_keep c =
-    let f = c.args.f.now in
-    rw (
-      eq-eqb (length f) (length f) refl,
-      c.requires,
-      ne_eqb _ _ c.in_default.rest.0.0.0.1,
-      ne_eqb _ _ c.in_default.rest.0.0.1,
-      ne_eqb _ _ c.in_default.rest.0.1,
-      ne_eqb _ _ c.in_default.rest.1,
-      ← c.does_keep.ensures,
-      c.if-does_keep.false,
-    )
+    grind (arith, ne_eqb, eq-eqb (length c.args.f.now) (length c.args.f.now) refl, c.requires, c.does_keep.ensures)
