@@ -1,0 +1,12 @@
+-- No slot below i is a used one with the number, and n - i falls. A hit is the walk's answer by passed_hit, the end by passed_all;
+-- place_test carries what is_of says of the lent bytes to slot i of the register.
+use Prim.Native.Nat.{◌-◌}
+use Rattle.rules.specs.Records.{has_number}
+use Rattle.rules.proofs.WalkLaws.{Passed}
+use Rattle.register.proofs.find_number.Given as goal
+
+abbrev pub invariant-loop-i : goal.invariant-loop-i
+invariant-loop-i l = Passed (has_number l.number l.register) l.n l.i
+
+abbrev pub decreases-loop-i : goal.decreases-loop-i
+decreases-loop-i l = l.n - l.i
