@@ -1,0 +1,12 @@
+-- No row below i is the same as g, and n - i falls. Rows that next_on skips are of another street, and by row_not not the same, so
+-- passed_on moves i over them; what is left is passed_more after a miss, passed_hit at a hit, passed_all at the end.
+use Prim.Native.Nat.{◌-◌}
+use Rattle.rules.specs.Rows.{same_at}
+use Rattle.rules.proofs.WalkLaws.{Passed}
+use Rattle.guide.proofs.find_same.Given as goal
+
+abbrev pub invariant-loop-i : goal.invariant-loop-i
+invariant-loop-i l = Passed (same_at l.g l.guide) l.n l.i
+
+abbrev pub decreases-loop-i : goal.decreases-loop-i
+decreases-loop-i l = l.n - l.i
