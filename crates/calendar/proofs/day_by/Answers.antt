@@ -10,9 +10,8 @@ returns-in_default c =
     (by_none c.args.f.now c.args.reading (sym c.in_default.is ∙ c.day_in.ensures.0), refl)
 
 pub returns-in-Former : goal.returns-in-Former
-returns-in-Former c =
-    (
-      by_former c.args.f.now c.args.reading _ _ c.in-Former.is
-          (sym c.in-Day.is ∙ c.day_in.ensures.0) c.former_number.ensures.0,
-      le-leb _ 36524 c.former_number.ensures.1,
-    )
+returns-in-Former c = (
+  by_former c.args.f.now c.args.reading _ _ c.in-Former.is
+      (sym c.in-Day.is ∙ c.day_in.ensures.0) c.former_number.ensures.0,
+  le-leb _ 36524 c.former_number.ensures.1,
+)

@@ -1,7 +1,6 @@
 -- From the end: all behind n is spaces, and n falls. The first byte that is no space is the last that is left (trim_end); if there is
 -- none, nothing is.
 use mathlib.Core.Path.{◌≡◌}
-use mathlib.Core.Bool.{true}
 use native.Mathlib.Omega.{arith}
 use native.Mathlib.Numerals.{unary_clauses}
 use Rattle.text.proofs.TrimLaws.{trim_end, trim_none}
