@@ -10,12 +10,11 @@ returns-then-fault-ne0 c =
     c.loop-i-test.true (rw (c.part_of-f.ensures, c.from_zero.ensures) at c.field_fault-fault.ensures) c.if-fault-ne0.true
 
 pub loop-i-preserved : goal.loop-i-preserved
-loop-i-preserved c =
-    (
-      search rules,
-      fault_later c.args.lax c.args.line.now c.args.table.now c.loop-i.i c.field_fault-fault.result c.loop-i.invariant.1
-          c.loop-i-test.true (rw (c.part_of-f.ensures, c.from_zero.ensures) at c.field_fault-fault.ensures) c.if-fault-ne0.false,
-    )
+loop-i-preserved c = (
+  search rules,
+  fault_later c.args.lax c.args.line.now c.args.table.now c.loop-i.i c.field_fault-fault.result c.loop-i.invariant.1
+      c.loop-i-test.true (rw (c.part_of-f.ensures, c.from_zero.ensures) at c.field_fault-fault.ensures) c.if-fault-ne0.false,
+)
 
 pub returns : goal.returns
 returns c = fault_none _ _ _ _ c.loop-i.invariant.1 c.loop-i-test.false
