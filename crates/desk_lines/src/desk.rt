@@ -21,7 +21,7 @@ fn is_readable(line: &[u8]) -> bool
     ensures { result ≡ is_readable line.now }
 {
     if (1 <= line.len()) & (line.len() <= desk_marks::MOST_TYPED) {
-        return hex::is_hex(line);
+        return hexadecimal::is_hex(line);
     }
     false
 }
@@ -67,7 +67,7 @@ fn read_line(
 {
     let mut bytes = [0; MOST_BYTES];
     let k = line.len() / 2;
-    hex::decode(line, &mut bytes[0..k]);
+    hexadecimal::decode(line, &mut bytes[0..k]);
     frames::framed(
         m,
         &mut register[..],

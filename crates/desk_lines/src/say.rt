@@ -29,7 +29,7 @@ fn line(out: &mut [u8], frame: &[u8]) -> usize
     ensures { Writes (line_of frame.now) out.old result out.new }
 {
     let n = 2 * frame.len() + 1;
-    hex::encode(frame, &mut out[0..n]);
+    hexadecimal::encode(frame, &mut out[0..n]);
     n
 }
 
@@ -38,7 +38,7 @@ pub fn unread(out: &mut [u8], n: u32) -> usize
     requires { most_said ≤ length out.old }
     ensures { Writes (unread_said n) out.old result out.new }
 {
-    let frame = [UNREAD, hex::high(n), hex::low(n)];
+    let frame = [UNREAD, hexadecimal::high(n), hexadecimal::low(n)];
     line(&mut out[..], &frame)
 }
 
@@ -50,10 +50,15 @@ fn answers(out: &mut [u8], given: &[u8], n: usize) -> usize
     let mut i: usize = 0;
     while i < n {
         let place = (i + 1) as u32;
-        let frame = [ANSWER, hex::high(place), hex::low(place), given[i]];
+        let frame = [
+            ANSWER,
+            hexadecimal::high(place),
+            hexadecimal::low(place),
+            given[i],
+        ];
         let a = ANSWER_LINE * i;
         let e = a + ANSWER_LINE;
-        hex::encode(&frame, &mut out[a..e]);
+        hexadecimal::encode(&frame, &mut out[a..e]);
         i += 1;
     }
     ANSWER_LINE * n
@@ -67,10 +72,10 @@ fn counts(out: &mut [u8], t: Taken) -> usize
     let undone = t.undone;
     let frame = [
         COUNTS,
-        hex::high(done),
-        hex::low(done),
-        hex::high(undone),
-        hex::low(undone),
+        hexadecimal::high(done),
+        hexadecimal::low(done),
+        hexadecimal::high(undone),
+        hexadecimal::low(undone),
     ];
     line(&mut out[..], &frame)
 }
@@ -84,11 +89,11 @@ fn refused(out: &mut [u8], t: Taken) -> usize
     let position = t.position;
     let frame = [
         REFUSAL,
-        hex::low(refusal),
-        hex::high(place),
-        hex::low(place),
-        hex::high(position),
-        hex::low(position),
+        hexadecimal::low(refusal),
+        hexadecimal::high(place),
+        hexadecimal::low(place),
+        hexadecimal::high(position),
+        hexadecimal::low(position),
     ];
     line(&mut out[..], &frame)
 }
@@ -117,6 +122,11 @@ pub fn seen(out: &mut [u8], s: Seen) -> usize
     }
     let state = s.state;
     let looked = s.looked;
-    let frame = [SEEN, hex::low(state), hex::high(looked), hex::low(looked)];
+    let frame = [
+        SEEN,
+        hexadecimal::low(state),
+        hexadecimal::high(looked),
+        hexadecimal::low(looked),
+    ];
     line(&mut out[..], &frame)
 }

@@ -77,7 +77,7 @@ pub fn append(out: &mut [u8], at: usize, b: &[u8]) -> usize
     ensures { Appends out.old at b.now result out.new }
 {
     let end = at + b.len();
-    bytes::copy(b, &mut out[at..end]);
+    out[at..end].copy_from_slice(b);
     end
 }
 

@@ -2,8 +2,8 @@
 -- show that it is below 16.
 use native.Mathlib.Omega.{arith}
 use Rattle.desk_rules.proofs.HexLaws.{range_in}
-use Rattle.hex.proofs.value.Tie as tie
-use Rattle.hex.proofs.value.Statement.{statement}
+use Rattle.hexadecimal.proofs.value.Tie as tie
+use Rattle.hexadecimal.proofs.value.Statement.{statement}
 
 sub-result : tie.Need-overflow-sub-result
 sub-result c = (range_in 48 c.before.args.b 57 c.if1.true).0

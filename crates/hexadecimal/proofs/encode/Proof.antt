@@ -8,8 +8,8 @@ use lib.ListN.{length-set, length, take, drop}
 use borrow.Author.Rules.{rules}
 use Rattle.desk_rules.specs.Hex.{line_of}
 use Rattle.desk_rules.proofs.HexLaws.{encode_length, encode_more, encode_all, encoded_is, encoded_not}
-use Rattle.hex.proofs.encode.Tie as tie
-use Rattle.hex.proofs.encode.Statement.{statement}
+use Rattle.hexadecimal.proofs.encode.Tie as tie
+use Rattle.hexadecimal.proofs.encode.Statement.{statement}
 
 abbrev invariant-loop : tie.invariant-loop
 invariant-loop frame line₀ i₀ line i = (i ≤ length frame) × (line ≡ take (2 * i) (line_of frame) ++ drop (2 * i) line₀)

@@ -9,8 +9,8 @@ use borrow.Author.Rules.{rules}
 use Rattle.desk_rules.specs.Hex.{bytes_in}
 use Rattle.desk_rules.proofs.HexLaws.{bytes_length, bytes_at, decoded_is, decoded_not}
 use Rattle.desk_rules.proofs.OverLaws.{front_length, front_more, front_all}
-use Rattle.hex.proofs.decode.Tie as tie
-use Rattle.hex.proofs.decode.Statement.{statement}
+use Rattle.hexadecimal.proofs.decode.Tie as tie
+use Rattle.hexadecimal.proofs.decode.Statement.{statement}
 
 abbrev invariant-loop : tie.invariant-loop
 invariant-loop line bytes₀ i₀ bytes i = (i ≤ length bytes₀) × (bytes ≡ take i (bytes_in line) ++ drop i bytes₀)

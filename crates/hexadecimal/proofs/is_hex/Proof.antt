@@ -7,8 +7,8 @@ use lib.ListN.{length, drop}
 use borrow.Author.Rules.{rules}
 use Rattle.desk_rules.specs.Hex.{is_hex}
 use Rattle.desk_rules.proofs.HexLaws.{hex_more, hex_not, hex_end}
-use Rattle.hex.proofs.is_hex.Tie as tie
-use Rattle.hex.proofs.is_hex.Statement.{statement}
+use Rattle.hexadecimal.proofs.is_hex.Tie as tie
+use Rattle.hexadecimal.proofs.is_hex.Statement.{statement}
 
 abbrev invariant-loop : tie.invariant-loop
 invariant-loop line i₀ i = (i ≤ length line) × (is_hex (drop i line) ≡ is_hex line)

@@ -1,8 +1,8 @@
 -- The one test is hexDigit's own; with n below 16 either sum stays within a byte.
 use borrow.Author.Rules.{rules}
 use borrow.Author.Tests.{lt-ltb, le-ltb}
-use Rattle.hex.proofs.digit.Tie as tie
-use Rattle.hex.proofs.digit.Statement.{statement}
+use Rattle.hexadecimal.proofs.digit.Tie as tie
+use Rattle.hexadecimal.proofs.digit.Statement.{statement}
 
 add-result : tie.Need-overflow-add-result
 add-result c = search rules
