@@ -1,4 +1,4 @@
--- runsOf's three tests in its order, with run's promise for the run: below low and above high it is false, and else is_rest_blank's promise
+-- runs_of's three tests in its order, with run's promise for the run: below low and above high it is false, and else is_rest_blank's promise
 -- on the bytes behind the run (rest_is) is the third.
 use borrow.Author.Tests.{le-leb, lt-leb}
 use Rattle.text.specs.Text.{runs_of}

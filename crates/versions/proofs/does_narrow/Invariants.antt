@@ -1,4 +1,4 @@
--- all is the test of the first k fields, and 37 - k falls; a turn is allTo's own step, at the bytes that part_of lends. A tail starts
+-- all is the test of the first k fields, and 37 - k falls; a turn is all_to's own step, at the bytes that part_of lends. A tail starts
 -- within 512 bytes, and a field is no longer in Version 1: so the sum and the difference fit (tail_start, tail_size).
 use mathlib.Core.Path.{◌≡◌}
 use Prim.Native.Nat.{◌-◌, ◌≤◌}

@@ -1,4 +1,4 @@
--- The returns are cycleOf's cases in its order: number_in spells none, the number is below 1, or above 999999; what is left is the cycle.
+-- The returns are cycle_of's cases in its order: number_in spells none, the number is below 1, or above 999999; what is left is the cycle.
 -- lt-ltb and le-ltb turn the comparisons into its tests.
 use borrow.Author.Tests.{lt-ltb, le-ltb}
 use Rattle.layout.specs.Counters.{cycle_of}

@@ -1,4 +1,4 @@
--- The second put is promised over what the first left, so the two are forLoad's two, Function first and Source over it.
+-- The second put is promised over what the first left, so the two are for_load's two, Function first and Source over it.
 use Rattle.layout.specs.Fields.{for_load}
 use Rattle.layout.proofs.field.mark_for_load.Goals as goal
 

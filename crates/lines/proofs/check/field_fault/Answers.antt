@@ -1,5 +1,5 @@
 -- A whole field is of printable bytes, as rule_fault asks (whole_clean), and n is its length (whole_long), so rule_fault's fault is
--- the one for n. One that is not whole has its fault at its start by faultBy's first test.
+-- the one for n. One that is not whole has its fault at its start by fault_by's first test.
 use mathlib.Core.Path.{sym, ◌∙◌}
 use Rattle.layout.specs.Rules.{fault_by}
 use Rattle.layout.proofs.LineLaws.{whole_long, whole_clean}

@@ -1,4 +1,4 @@
--- Eight arms in keepsOther's order, each opened by the number that the match names; letters and bounds are the table's, and compute
+-- Eight arms in keeps_other's order, each opened by the number that the match names; letters and bounds are the table's, and compute
 -- to the definition's. Behind eight false tests stands keeps_frame's answer.
 use native.Mathlib.Omega.{arith}
 use borrow.Author.Tests.{ne_eqb}
