@@ -10,8 +10,8 @@ use Rattle.taking.proofs.apply.apply_records.Given as goal
 
 abbrev pub invariant-loop-i : goal.invariant-loop-i
 invariant-loop-i l =
-    (Turned (Data l.version) l.h l.file (record { l.register = l.initial.register; l.guide = l.guide }) l.initial.answers l.n
-    (record { l.register = l.register; l.guide = l.guide }) l.answers l.done l.i) × (length l.register ≡ length l.initial.register)
+    (Turned (Data l.version) l.h l.file (record { register = l.initial.register; guide = l.guide }) l.initial.answers l.n
+    (record { register = l.register; guide = l.guide }) l.answers l.done l.i) × (length l.register ≡ length l.initial.register)
 
 abbrev pub decreases-loop-i : goal.decreases-loop-i
 decreases-loop-i l = l.n - l.i

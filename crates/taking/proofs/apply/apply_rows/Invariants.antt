@@ -9,7 +9,7 @@ use Rattle.taking.proofs.apply.apply_rows.Given as goal
 
 abbrev pub invariant-loop-i : goal.invariant-loop-i
 invariant-loop-i l =
-    (Turned Guide l.h l.file (record { l.register = l.register; l.guide = l.initial.guide }) l.initial.answers l.n (record { l.register = l.register; l.guide = l.guide })
+    (Turned Guide l.h l.file (record { register = l.register; guide = l.initial.guide }) l.initial.answers l.n (record { register = l.register; guide = l.guide })
     l.answers l.done l.i) × (length l.guide ≡ length l.initial.guide)
 
 abbrev pub decreases-loop-i : goal.decreases-loop-i
