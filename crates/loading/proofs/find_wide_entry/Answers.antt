@@ -16,14 +16,14 @@ unfolding wide_at
 returns-then-is_wide c =
     let register = c.args.register.now in
     passed_hit (wide_at One register) (length register / 520) c.loop-i.i c.loop-i.invariant c.loop-i-test.true
-    (place_test 520 (is_wide_entry One) register c.loop-i.i c.is_IsWide.ensures c.if-is_wide.true)
+    (place_test 520 (is_wide_entry One) register c.loop-i.i c.is_wide.ensures c.if-is_wide.true)
 
 pub loop-i-preserved : goal.loop-i-preserved
 unfolding wide_at
 loop-i-preserved c =
     let register = c.args.register.now in
     passed_more (wide_at One register) (length register / 520) c.loop-i.i c.loop-i.invariant c.loop-i-test.true
-    (place_test 520 (is_wide_entry One) register c.loop-i.i c.is_IsWide.ensures c.if-is_wide.false)
+    (place_test 520 (is_wide_entry One) register c.loop-i.i c.is_wide.ensures c.if-is_wide.false)
 
 pub returns : goal.returns
 returns c =

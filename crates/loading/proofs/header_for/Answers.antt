@@ -15,7 +15,7 @@ returns-then-date-company c =
     let date = c.args.date.now in
     let company = c.args.company.now in
     c.header_in.ensures
-    ∙ header_read c.args.version date company c.args.cycle n c.header_table-fields.result (replicate 200 32) c.put_header.new.0
+    ∙ header_read c.args.version date company c.args.cycle n c.header_table-fields.result (replicate 200 32) c.put_header.new.s
     c.sizes_of-sizes.ensures.0.0 c.sizes_of-sizes.ensures.1.0
     (c.put_header.ensures
     ∙ ap (λ (x : Cycle). header_with date company x.0 (length (take (n - 0) (drop 0 (replicate 200 32))))) c.given.ensures)

@@ -47,6 +47,6 @@ returns c =
     let out = c.args.out.now in
     file_written c.args.version c.args.register.now c.args.entries f c.load_size-all.result out
     c.requires.1.0 c.requires.1.1 c.sizes_of-sizes.ensures.0.0 c.load_size-all.ensures.0 date company c.args.cycle
-    c.put_header.new.0 c.write_lines.new.1.1.0 c.put_trailer.new.0
+    c.put_header.new.s c.write_lines.new.out c.put_trailer.new.s
     (c.put_header.ensures ∙ ap (λ (x : Cycle). header_with date company x.0 (length (take (f - 0) (drop 0 out)))) c.given.ensures)
     c.write_lines.ensures c.put_trailer.ensures

@@ -29,7 +29,7 @@ loop-i-preserved c =
     let register = c.args.register.now in
     laid_more c.args.version register c.args.out.now c.requires i c.loop-i.at c.loop-i.out
     c.loop-i.invariant c.loop-i-test.true c.write_entry-at.result
-    (rw (place_part 520 register i) at c.write_entry-at.ensures.0) c.write_entry-at.new.1.1.0
+    (rw (place_part 520 register i) at c.write_entry-at.ensures.0) c.write_entry-at.new.out
     (rw (place_part 520 register i) at c.write_entry-at.ensures.1)
 
 pub returns : goal.returns
