@@ -320,13 +320,13 @@ unfolding Clear
 blank_clear k h u = not-false (blank (span_of k blank_line)) (find_none (λ k. not (blank (span_of k blank_line))) 28 none_written k h)
 
 module _ (s out : List ℕ) (b : Bool) (e : b ≡ is_framed s) where
-  pub frame_refused : (t : Tagged) → not b ≡ true → t ≡ refusal 33 0 → ReadsText s out t out
+  pub frame_refused : (t : Tagged) → b ≡ false → t ≡ refusal 33 0 → ReadsText s out t out
   unfolding text_read read_refusal first
   frame_refused t n q = rw (q, ← e, n) (refl, refl)
 
-  module _ (f : not b ≡ false) where
+  module _ (f : b ≡ true) where
     framed : is_framed s ≡ true
-    framed = sym e ∙ not-false b f
+    framed = sym e ∙ f
 
     pub frame_long : 4 ≤ length s
     unfolding is_framed

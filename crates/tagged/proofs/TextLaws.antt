@@ -141,11 +141,11 @@ module _ (r out : List ℕ) where
     fault_refused t n q = rw (q, l, ← e, ne_eqb f 0 n) (refl, refl)
 
     module _ (z : f ≡ 0) (b : Bool) (g : b ≡ has_form r) where
-      pub form_refused : (t : Tagged) → not b ≡ true → t ≡ refusal 37 0 → WritesText r out t out
+      pub form_refused : (t : Tagged) → b ≡ false → t ≡ refusal 37 0 → WritesText r out t out
       unfolding text_written write_refusal first
       form_refused t n q = rw (q, l, ← e, z, ← g, n) (refl, refl)
 
-      module _ (y : not b ≡ false) (line new : List ℕ) (n : ℕ) (x : Appends line 0 (tagged_of r) n new) where
+      module _ (y : b ≡ true) (line new : List ℕ) (n : ℕ) (x : Appends line 0 (tagged_of r) n new) where
         pub room_refused : (t : Tagged) → length out < n → t ≡ refusal 25 0 → WritesText r out t out
         unfolding text_written write_refusal first
         room_refused t h q = rw (q, l, ← e, z, ← g, y, lt-ltb (length out) (length (tagged_of r)) (omega (arith, x.0))) (refl, refl)

@@ -11,11 +11,10 @@ pub loop-j-init : goal.loop-j-init
 loop-j-init c = (search rules, search rules, elsewhere_none _ _ _)
 
 pub loop-j-preserved : goal.loop-j-preserved
-loop-j-preserved c =
-    (
-      search rules,
-      search rules,
-      elsewhere_more _ _ _ _ c.loop-j.invariant.2
-          (place_test 208 (is_on c.args.street.now) c.args.guide.now c.loop-j.j refl
-          (c.may_be_on.ensures c.if-may_be_on.false)),
-    )
+loop-j-preserved c = (
+  search rules,
+  search rules,
+  elsewhere_more _ _ _ _ c.loop-j.invariant.2
+      (place_test 208 (is_on c.args.street.now) c.args.guide.now c.loop-j.j refl
+      (c.may_be_on.ensures c.if-may_be_on.false)),
+)

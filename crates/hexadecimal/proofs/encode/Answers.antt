@@ -10,12 +10,11 @@ returns-then-line-frame c =
     sym (encoded_not c.args.frame.now c.args.line.now c.if-line-frame.true)
 
 pub loop-i-preserved : goal.loop-i-preserved
-loop-i-preserved c =
-    (
-      omega arith,
-      encode_more c.args.frame.now c.args.line.now c.if-line-frame.false c.loop-i.i c.loop-i.invariant.1
-          c.loop-i.invariant.0 _ _ c.loop-i-test.true c.digit.ensures c.digit-in-loop-i.ensures,
-    )
+loop-i-preserved c = (
+  omega arith,
+  encode_more c.args.frame.now c.args.line.now c.if-line-frame.false c.loop-i.i c.loop-i.invariant.1
+      c.loop-i.invariant.0 _ _ c.loop-i-test.true c.digit.ensures c.digit-in-loop-i.ensures,
+)
 
 pub returns : goal.returns
 returns c =

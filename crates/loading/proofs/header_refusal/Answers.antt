@@ -7,11 +7,10 @@ use Rattle.loading.proofs.header_refusal.Goals as goal
 
 pub returns-in_default : goal.returns-in_default
 unfolding header_refusal wide_slot
-returns-in_default c =
-    (
-      rw (c.refused.ensures.0, ← c.header_for.ensures, c.in_default.is) refl,
-      rw (c.refused.ensures.1, c.refused.ensures.0) refl,
-    )
+returns-in_default c = (
+  rw (c.refused.ensures.0, ← c.header_for.ensures, c.in_default.is) refl,
+  rw (c.refused.ensures.1, c.refused.ensures.0) refl,
+)
 
 pub returns-in_default-found : goal.returns-in_default-found
 unfolding header_refusal

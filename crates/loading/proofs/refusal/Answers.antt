@@ -16,8 +16,7 @@ returns-then-is_register_sound c = rw (← c.is_register_sound.ensures, c.if-is_
 
 pub returns : goal.returns
 unfolding load_refusal wide_slot
-returns c =
-    (
-      rw (c.refused.ensures.0, ← c.is_register_sound.ensures, c.if-is_register_sound.false) refl,
-      rw (c.refused.ensures.1, c.refused.ensures.0) refl,
-    )
+returns c = (
+  rw (c.refused.ensures.0, ← c.is_register_sound.ensures, c.if-is_register_sound.false) refl,
+  rw (c.refused.ensures.1, c.refused.ensures.0) refl,
+)

@@ -13,19 +13,17 @@ insert_row-requires c =
 
 pub returns-in-Insert : goal.returns-in-Insert
 unfolding row_step row_applied
-returns-in-Insert c =
-    (
-      rw (← c.row_code.ensures, c.in-Insert.is) c.insert_row.ensures.0,
-      rw (← c.row_code.ensures, c.in-Insert.is) c.insert_row.ensures.1,
-    )
+returns-in-Insert c = (
+  rw (← c.row_code.ensures, c.in-Insert.is) c.insert_row.ensures.0,
+  rw (← c.row_code.ensures, c.in-Insert.is) c.insert_row.ensures.1,
+)
 
 pub returns-in-Delete : goal.returns-in-Delete
 unfolding row_step row_applied
-returns-in-Delete c =
-    (
-      rw (← c.row_code.ensures, c.in-Delete.is) c.delete_row.ensures.0,
-      rw (← c.row_code.ensures, c.in-Delete.is) c.delete_row.ensures.1,
-    )
+returns-in-Delete c = (
+  rw (← c.row_code.ensures, c.in-Delete.is) c.delete_row.ensures.0,
+  rw (← c.row_code.ensures, c.in-Delete.is) c.delete_row.ensures.1,
+)
 
 pub returns-in-NoCode : goal.returns-in-NoCode
 unfolding row_step row_applied

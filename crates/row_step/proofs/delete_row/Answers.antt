@@ -12,29 +12,27 @@ use Rattle.row_step.proofs.delete_row.Goals as goal
 
 pub returns-in_default : goal.returns-in_default
 unfolding row_step find_same find_entry first
-returns-in_default c =
-    (
-      rw (← (ap (λ (x : Sought). x.found) c.find_same-same.ensures), c.in_default.is),
-      rw (← (ap (λ (x : Sought). x.found) c.find_same-same.ensures), c.in_default.is),
-    )
+returns-in_default c = (
+  rw (← (ap (λ (x : Sought). x.found) c.find_same-same.ensures), c.in_default.is),
+  rw (← (ap (λ (x : Sought). x.found) c.find_same-same.ensures), c.in_default.is),
+)
 
 pub returns-in_default-used : goal.returns-in_default-used
 unfolding row_step find_same find_entry first
-returns-in_default-used c =
-    (
-      rw (
-        ← (ap (λ (x : Sought). x.found) c.find_same-same.ensures),
-        c.in-At.is,
-        ← (ap (λ (x : Sought). x.found) (rw c.row_at.ensures at c.find_entry-entry.ensures)),
-        c.in_default-used.is,
-      ),
-      rw (
-        ← (ap (λ (x : Sought). x.found) c.find_same-same.ensures),
-        c.in-At.is,
-        ← (ap (λ (x : Sought). x.found) (rw c.row_at.ensures at c.find_entry-entry.ensures)),
-        c.in_default-used.is,
-      ),
-    )
+returns-in_default-used c = (
+  rw (
+    ← (ap (λ (x : Sought). x.found) c.find_same-same.ensures),
+    c.in-At.is,
+    ← (ap (λ (x : Sought). x.found) (rw c.row_at.ensures at c.find_entry-entry.ensures)),
+    c.in_default-used.is,
+  ),
+  rw (
+    ← (ap (λ (x : Sought). x.found) c.find_same-same.ensures),
+    c.in-At.is,
+    ← (ap (λ (x : Sought). x.found) (rw c.row_at.ensures at c.find_entry-entry.ensures)),
+    c.in_default-used.is,
+  ),
+)
 
 pub clear_at-requires : goal.clear_at-requires
 clear_at-requires c =
@@ -44,18 +42,17 @@ clear_at-requires c =
 
 pub returns : goal.returns
 unfolding row_step find_same find_entry first
-returns c =
-    (
-      rw (
-        ← (ap (λ (x : Sought). x.found) c.find_same-same.ensures),
-        c.in-At.is,
-        ← (ap (λ (x : Sought). x.found) (rw c.row_at.ensures at c.find_entry-entry.ensures)),
-        c.in-Nothing.is,
-      ),
-      rw (
-        ← (ap (λ (x : Sought). x.found) c.find_same-same.ensures),
-        c.in-At.is,
-        ← (ap (λ (x : Sought). x.found) (rw c.row_at.ensures at c.find_entry-entry.ensures)),
-        c.in-Nothing.is,
-      ) c.clear_at.ensures,
-    )
+returns c = (
+  rw (
+    ← (ap (λ (x : Sought). x.found) c.find_same-same.ensures),
+    c.in-At.is,
+    ← (ap (λ (x : Sought). x.found) (rw c.row_at.ensures at c.find_entry-entry.ensures)),
+    c.in-Nothing.is,
+  ),
+  rw (
+    ← (ap (λ (x : Sought). x.found) c.find_same-same.ensures),
+    c.in-At.is,
+    ← (ap (λ (x : Sought). x.found) (rw c.row_at.ensures at c.find_entry-entry.ensures)),
+    c.in-Nothing.is,
+  ) c.clear_at.ensures,
+)

@@ -13,29 +13,27 @@ use Rattle.row_step.proofs.insert_row.Goals as goal
 
 pub returns-in_default : goal.returns-in_default
 unfolding row_step find_clash find_vacant first
-returns-in_default c =
-    (
-      rw (← (ap (λ (x : Sought). x.found) c.find_clash-clash.ensures), c.in_default.is),
-      rw (← (ap (λ (x : Sought). x.found) c.find_clash-clash.ensures), c.in_default.is),
-    )
+returns-in_default c = (
+  rw (← (ap (λ (x : Sought). x.found) c.find_clash-clash.ensures), c.in_default.is),
+  rw (← (ap (λ (x : Sought). x.found) c.find_clash-clash.ensures), c.in_default.is),
+)
 
 pub returns-in_default-free : goal.returns-in_default-free
 unfolding row_step find_clash find_vacant first
-returns-in_default-free c =
-    (
-      rw (
-        ← (ap (λ (x : Sought). x.found) c.find_clash-clash.ensures),
-        c.in-Nothing.is,
-        ← (ap (λ (x : Sought). x.found) c.find_vacant-vacant.ensures),
-        c.in_default-free.is,
-      ),
-      rw (
-        ← (ap (λ (x : Sought). x.found) c.find_clash-clash.ensures),
-        c.in-Nothing.is,
-        ← (ap (λ (x : Sought). x.found) c.find_vacant-vacant.ensures),
-        c.in_default-free.is,
-      ),
-    )
+returns-in_default-free c = (
+  rw (
+    ← (ap (λ (x : Sought). x.found) c.find_clash-clash.ensures),
+    c.in-Nothing.is,
+    ← (ap (λ (x : Sought). x.found) c.find_vacant-vacant.ensures),
+    c.in_default-free.is,
+  ),
+  rw (
+    ← (ap (λ (x : Sought). x.found) c.find_clash-clash.ensures),
+    c.in-Nothing.is,
+    ← (ap (λ (x : Sought). x.found) c.find_vacant-vacant.ensures),
+    c.in_default-free.is,
+  ),
+)
 
 pub write_at-requires : goal.write_at-requires
 write_at-requires c =
@@ -47,18 +45,17 @@ write_at-requires c =
 
 pub returns : goal.returns
 unfolding row_step find_clash find_vacant first
-returns c =
-    (
-      rw (
-        ← (ap (λ (x : Sought). x.found) c.find_clash-clash.ensures),
-        c.in-Nothing.is,
-        ← (ap (λ (x : Sought). x.found) c.find_vacant-vacant.ensures),
-        c.in-At.is,
-      ),
-      rw (
-        ← (ap (λ (x : Sought). x.found) c.find_clash-clash.ensures),
-        c.in-Nothing.is,
-        ← (ap (λ (x : Sought). x.found) c.find_vacant-vacant.ensures),
-        c.in-At.is,
-      ) c.write_at.ensures,
-    )
+returns c = (
+  rw (
+    ← (ap (λ (x : Sought). x.found) c.find_clash-clash.ensures),
+    c.in-Nothing.is,
+    ← (ap (λ (x : Sought). x.found) c.find_vacant-vacant.ensures),
+    c.in-At.is,
+  ),
+  rw (
+    ← (ap (λ (x : Sought). x.found) c.find_clash-clash.ensures),
+    c.in-Nothing.is,
+    ← (ap (λ (x : Sought). x.found) c.find_vacant-vacant.ensures),
+    c.in-At.is,
+  ) c.write_at.ensures,
+)

@@ -5,7 +5,6 @@ use Rattle.layout.specs.Tables.{data_record}
 use Rattle.layout.specs.Rules.{keeps, keeps_other}
 use Rattle.faults.specs.Look.{kept_at}
 use Rattle.faults.proofs.LookLaws.{field_kept}
-
 use Rattle.faults.proofs.look.has_good_customer.Goals as goal
 
 pub returns : goal.returns

@@ -5,7 +5,6 @@ use Rattle.layout.specs.Tables.{data_record}
 use Rattle.layout.specs.Rules.{keeps, keeps_other}
 use Rattle.faults.specs.Look.{kept_at}
 use Rattle.faults.proofs.LookLaws.{field_kept, field_passed, field_whole, house_passes}
-
 use Rattle.faults.proofs.look.has_good_number.Goals as goal
 
 pub returns : goal.returns

@@ -6,7 +6,6 @@ use Rattle.layout.specs.Tables.{guide_row}
 use Rattle.layout.specs.Rules.{keeps, keeps_other, fault_in}
 use Rattle.faults.specs.Look.{kept_at, fault_from}
 use Rattle.faults.proofs.LookLaws.{field_kept}
-
 use Rattle.faults.proofs.look.has_good_row_end.Goals as goal
 
 pub returns : goal.returns

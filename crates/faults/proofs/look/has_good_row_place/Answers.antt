@@ -5,7 +5,6 @@ use Rattle.layout.specs.Tables.{guide_row}
 use Rattle.layout.specs.Rules.{keeps, keeps_other}
 use Rattle.faults.specs.Look.{kept_at}
 use Rattle.faults.proofs.LookLaws.{field_kept}
-
 use Rattle.faults.proofs.look.has_good_row_place.Goals as goal
 
 pub returns : goal.returns

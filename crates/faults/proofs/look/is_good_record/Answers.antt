@@ -2,7 +2,6 @@
 -- length's test is for the compiler alone, and no step uses it.
 use mathlib.Core.Path.{◌∙◌}
 use Rattle.faults.specs.Look.{fault_from}
-
 use Rattle.faults.proofs.look.is_good_record.Goals as goal
 
 pub returns : goal.returns

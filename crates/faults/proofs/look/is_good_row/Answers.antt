@@ -5,7 +5,6 @@ use mathlib.Core.Bool.{false}
 use Rattle.layout.specs.Tables.{guide_row, start_of, size_of, low, high, parity}
 use Rattle.faults.specs.Look.{fault_from}
 use Rattle.faults.proofs.LookLaws.{there_before, field_passed, field_whole, low_passes, high_passes, parity_passes}
-
 use Rattle.faults.proofs.look.is_good_row.Goals as goal
 
 pub returns : goal.returns

@@ -8,7 +8,7 @@ use Rattle.tagged.proofs.read.take_pairs.Given as goal
 
 abbrev pub invariant-loop-i : goal.invariant-loop-i
 invariant-loop-i l =
-    Walked l.body (record { l.notes = nothing_noted; l.seen = l.initial.seen; l.line = l.initial.line }) (record { l.notes = l.notes; l.seen = l.seen; l.line = l.line }) l.i
+    Walked l.body (record { notes = nothing_noted; seen = l.initial.seen; line = l.initial.line }) (record { notes = l.notes; seen = l.seen; line = l.line }) l.i
 
 abbrev pub decreases-loop-i : goal.decreases-loop-i
 decreases-loop-i l = length l.body - l.i

@@ -11,13 +11,12 @@ use Rattle.taking.proofs.apply.apply_records.Goals as goal
 use Rattle.taking.proofs.apply.apply_records.Goals.{then-answer-eq0, else-answer-eq0}
 
 pub loop-i-init : goal.loop-i-init
-loop-i-init c =
-    (
-      turned_none (Data c.args.version) c.args.h c.args.file.now
-          (record { register = c.args.register.now; guide = c.args.guide.now }) c.args.answers.now
-          c.args.n c.requires.1,
-      refl,
-    )
+loop-i-init c = (
+  turned_none (Data c.args.version) c.args.h c.args.file.now
+      (record { register = c.args.register.now; guide = c.args.guide.now }) c.args.answers.now
+      c.args.n c.requires.1,
+  refl,
+)
 
 pub loop-i-preserved : goal.loop-i-preserved
 unfolding line_applied
@@ -31,7 +30,7 @@ loop-i-preserved c =
           (rw c.line_at.ensures at c.apply_line-answer.ensures.0)
           (ap (λ (x : List ℕ). record { register = x; guide = guide }) (rw c.line_at.ensures at c.apply_line-answer.ensures.1))
           (elim c.if-answer-eq0.branch [
-            then-answer-eq0 w ↦ count_zero _ _ _ w.if-answer-eq0.true w.done-is
+            | then-answer-eq0 w ↦ count_zero _ _ _ w.if-answer-eq0.true w.done-is
             | else-answer-eq0 w ↦ count_other _ _ _ w.if-answer-eq0.false w.done-is
           ]),
       c.apply_line-answer.auto.register ∙ c.loop-i.invariant.1,
