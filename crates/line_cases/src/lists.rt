@@ -1,6 +1,7 @@
 // Cases as text: a list has a bar between two items, a table of fields a semicolon between two entries.
 use crate::made::{BAR, Kind};
-use crate::{cases, dates, made, readers, rows};
+use crate::{cases, dates, made, readers, rows, scan};
+use std::io;
 
 const SEMICOLON: u8 = b';';
 
@@ -19,35 +20,37 @@ pub enum Task {
     Allowed,
 }
 
-fn one(task: Task, name: &[u8], item: &[u8]) {
+fn one(rt: &impl Print, task: Task, name: &[u8], item: &[u8]) -> io::Result<()> {
     match task {
-        Task::Value(kind, k) => cases::case(kind, name, k, item),
-        Task::Span => rows::span(name, item),
-        Task::Date => dates::date(item),
-        Task::House => readers::house(item),
-        Task::End => readers::end(item),
-        Task::Allowed => readers::allowed(name, item),
+        Task::Value(kind, k) => cases::case(rt, kind, name, k, item),
+        Task::Span => rows::span(rt, name, item),
+        Task::Date => dates::date(rt, item),
+        Task::House => readers::house(rt, item),
+        Task::End => readers::end(rt, item),
+        Task::Allowed => readers::allowed(rt, name, item),
     }
 }
 
 // A case for each item.
-pub fn each(task: Task, name: &[u8], list: &[u8]) {
+pub fn each(rt: &impl Print, task: Task, name: &[u8], list: &[u8]) -> io::Result<()> {
     let mut i = 0;
     while i <= list.len() {
-        let e = bytes::scan::find(list, i, list.len(), BAR);
-        one(task, name, &list[i..e]);
+        let e = scan::find(list, i, BAR);
+        one(rt, task, name, &list[i..e])?;
         i = e + 1;
     }
+    Ok(())
 }
 
 // The cases of each field of a line, in the order of layout's table.
-pub fn each_field(kind: Kind, entries: &[u8]) {
+pub fn each_field(rt: &impl Print, kind: Kind, entries: &[u8]) -> io::Result<()> {
     let mut i = 0;
     let mut k = 0;
     while i <= entries.len() {
-        let e = bytes::scan::find(entries, i, entries.len(), SEMICOLON);
-        cases::field(kind, k, &entries[i..e]);
+        let e = scan::find(entries, i, SEMICOLON);
+        cases::field(rt, kind, k, &entries[i..e])?;
         k = made::after(k);
         i = e + 1;
     }
+    Ok(())
 }

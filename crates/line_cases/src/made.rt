@@ -1,4 +1,5 @@
 // A good line of each kind, and the ways in which a case changes one. Where a field lies is taken from layout's tables.
+use crate::scan;
 use layout::table;
 use layout::table::{HEADER, RECORD, ROW, TRAILER};
 
@@ -99,7 +100,7 @@ fn put_all(line: &mut [u8], t: &[usize], list: &[u8]) {
     let mut i = 0;
     let mut k = 0;
     while i <= list.len() {
-        let e = bytes::scan::find(list, i, list.len(), BAR);
+        let e = scan::find(list, i, BAR);
         let f = field_in(t, k);
         text::put(&mut line[..], f.at, &list[i..e]);
         k = after(k);

@@ -12,12 +12,15 @@ mod out;
 mod readers;
 mod records;
 mod rows;
+mod scan;
 
-fn main() {
-    records::run();
-    rows::run();
-    frames::run();
-    dates::run();
-    counters::run();
-    readers::run();
+use std::io;
+
+fn main(rt: HostRuntime) -> io::Result<()> {
+    records::run(&rt)?;
+    rows::run(&rt)?;
+    frames::run(&rt)?;
+    dates::run(&rt)?;
+    counters::run(&rt)?;
+    readers::run(&rt)
 }

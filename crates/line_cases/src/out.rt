@@ -4,74 +4,76 @@ ghost use Rattle.std.specs.Prelude.{◌≤◌};
 use calendar::{Date, Day};
 use layout::counter::Turn;
 use layout::frame::{Closed, Opened};
+use std::io;
 use text::Spelled;
 
-pub fn word(b: &[u8]) {
-    io::write_all(1, b);
+pub fn word(rt: &impl Print, b: &[u8]) -> io::Result<()> {
+    rt.write_all(b)
 }
 
-pub fn number(n: u64) {
-    io::print_decimal(1, n);
+pub fn number(rt: &impl Print, n: u64) -> io::Result<()> {
+    rt.print(n)
+}
+
+// A byte as two digits, in hexadecimal.
+pub fn hex_byte(rt: &impl Print, b: u8) -> io::Result<()> {
+    print!(rt; "{b:02x}")
 }
 
 // The bytes of a field, in quotes that show its spaces.
-pub fn quoted(b: &[u8]) {
-    word(b"`");
-    word(b);
-    word(b"`");
+pub fn quoted(rt: &impl Print, b: &[u8]) -> io::Result<()> {
+    word(rt, b"`")?;
+    word(rt, b)?;
+    word(rt, b"`")
 }
 
 // A field by its name, and the bytes that it is given.
-pub fn field(name: &[u8], bytes: &[u8]) {
-    word(name);
+pub fn field(rt: &impl Print, name: &[u8], bytes: &[u8]) -> io::Result<()> {
+    word(rt, name)?;
     if text::is_blank(bytes) {
-        word(b" blank");
-        return;
+        return word(rt, b" blank");
     }
-    word(b" ");
-    quoted(bytes);
+    word(rt, b" ")?;
+    quoted(rt, bytes)
 }
 
-pub fn ends_in_word(b: &[u8]) {
-    word(b": ");
-    word(b);
-    word(b"\n");
+pub fn ends_in_word(rt: &impl Print, b: &[u8]) -> io::Result<()> {
+    word(rt, b": ")?;
+    word(rt, b)?;
+    word(rt, b"\n")
 }
 
-pub fn ends_in_bytes(b: &[u8]) {
-    word(b": ");
-    quoted(b);
-    word(b"\n");
+pub fn ends_in_bytes(rt: &impl Print, b: &[u8]) -> io::Result<()> {
+    word(rt, b": ")?;
+    quoted(rt, b)?;
+    word(rt, b"\n")
 }
 
-pub fn ends_in_number(n: u64) {
-    word(b": ");
-    number(n);
-    word(b"\n");
+pub fn ends_in_number(rt: &impl Print, n: u64) -> io::Result<()> {
+    word(rt, b": ")?;
+    number(rt, n)?;
+    word(rt, b"\n")
 }
 
-pub fn ends_in_answer(b: bool) {
+pub fn ends_in_answer(rt: &impl Print, b: bool) -> io::Result<()> {
     if b {
-        ends_in_word(b"yes");
-        return;
+        return ends_in_word(rt, b"yes");
     }
-    ends_in_word(b"no");
+    ends_in_word(rt, b"no")
 }
 
-pub fn ends_in_spelled(s: Spelled) {
+pub fn ends_in_spelled(rt: &impl Print, s: Spelled) -> io::Result<()> {
     let Spelled::Number(n) = s else {
-        ends_in_word(b"no number");
-        return;
+        return ends_in_word(rt, b"no number");
     };
-    ends_in_number(n as u64);
+    ends_in_number(rt, n as u64)
 }
 
-pub fn ends_in_turn(t: Turn) {
+pub fn ends_in_turn(rt: &impl Print, t: Turn) -> io::Result<()> {
     let Turn::Cycle(c) = t else {
-        ends_in_word(b"none");
-        return;
+        return ends_in_word(rt, b"none");
     };
-    ends_in_number(c.number() as u64);
+    ends_in_number(rt, c.number() as u64)
 }
 
 fn wide(b: u8) -> u64
@@ -90,41 +92,37 @@ fn day_number(d: Day) -> u64 {
     joined(&b)
 }
 
-pub fn ends_in_date(d: Date) {
+pub fn ends_in_date(rt: &impl Print, d: Date) -> io::Result<()> {
     let Date::Day(day) = d else {
-        ends_in_word(b"no date");
-        return;
+        return ends_in_word(rt, b"no date");
     };
-    ends_in_number(day_number(day));
+    ends_in_number(rt, day_number(day))
 }
 
-pub fn ends_in_header(h: Opened) {
+pub fn ends_in_header(rt: &impl Print, h: Opened) -> io::Result<()> {
     let Opened::Header(header) = h else {
-        ends_in_word(b"wrong");
-        return;
+        return ends_in_word(rt, b"wrong");
     };
     let day = header.day;
     let cycle = header.cycle;
-    word(b": day ");
-    number(day_number(day));
-    word(b", cycle ");
-    number(cycle.number() as u64);
-    word(b"\n");
+    word(rt, b": day ")?;
+    number(rt, day_number(day))?;
+    word(rt, b", cycle ")?;
+    number(rt, cycle.number() as u64)?;
+    word(rt, b"\n")
 }
 
-pub fn ends_in_trailer(t: Closed) {
+pub fn ends_in_trailer(rt: &impl Print, t: Closed) -> io::Result<()> {
     let Closed::Trailer(_) = t else {
-        ends_in_word(b"wrong");
-        return;
+        return ends_in_word(rt, b"wrong");
     };
-    ends_in_word(b"read");
+    ends_in_word(rt, b"read")
 }
 
 // Whether a trailer's record count is n.
-pub fn ends_in_count(t: Closed, n: usize) {
+pub fn ends_in_count(rt: &impl Print, t: Closed, n: usize) -> io::Result<()> {
     let Closed::Trailer(count) = t else {
-        ends_in_word(b"wrong");
-        return;
+        return ends_in_word(rt, b"wrong");
     };
-    ends_in_answer(count.is(n));
+    ends_in_answer(rt, count.is(n))
 }

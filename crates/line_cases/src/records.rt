@@ -2,10 +2,12 @@
 use crate::made::Kind;
 use crate::{cases, lists};
 use layout::table;
+use std::io;
 
 // 003's type letters are no rule, and lower case is good in text.
-fn fields() {
+fn fields(rt: &impl Print) -> io::Result<()> {
     lists::each_field(
+        rt,
         Kind::Data,
         b"Function=C|D|U|M|X|i;NPA=5A3|50;Calling Number=555A100|555010;\
         House Number=12345678|123456789|1234567890|00000001|000000001|1 1| 1|12A|-1;House Suffix;\
@@ -15,52 +17,62 @@ fn fields() {
         Main NPA;Main Number=ABC;Order;Date=123199|022901|131300|22900|0229 0;County;\
         Company ID=ABC|12345|AB1C2|A B|ab|aB|A-B| AB;Source=C|c|D;Zip;Zip+4;General Use;\
         Customer Code;Comments;X;Y;Z;Cell;Sector;TAR;Reserved;star=x",
-    );
+    )
 }
 
-fn comment(b: u8) {
-    cases::byte(Kind::Data, b"Comments", table::COMMENTS, 2, b);
+fn comment(rt: &impl Print, b: u8) -> io::Result<()> {
+    cases::byte(rt, Kind::Data, b"Comments", table::COMMENTS, 2, b)
 }
 
 // Every byte is 20 to 7E hex.
-fn printable() {
-    comment(0);
-    comment(31);
-    comment(32);
-    comment(126);
-    comment(127);
-    comment(255);
+fn printable(rt: &impl Print) -> io::Result<()> {
+    comment(rt, 0)?;
+    comment(rt, 31)?;
+    comment(rt, 32)?;
+    comment(rt, 126)?;
+    comment(rt, 127)?;
+    comment(rt, 255)
 }
 
-fn coded(c: &[u8], name: &[u8], k: usize, bytes: &[u8]) {
-    cases::two(Kind::Data, b"Function", table::FUNCTION, c, name, k, bytes);
+fn coded(rt: &impl Print, c: &[u8], name: &[u8], k: usize, bytes: &[u8]) -> io::Result<()> {
+    cases::two(
+        rt,
+        Kind::Data,
+        b"Function",
+        table::FUNCTION,
+        c,
+        name,
+        k,
+        bytes,
+    )
 }
 
 // Five fields are blank only in D and U, and two in no code. Blank in I comes with the fields.
-fn blanks(c: &[u8]) {
-    coded(c, b"Street Name", table::STREET_NAME, b"");
-    coded(c, b"Community", table::COMMUNITY, b"");
-    coded(c, b"State", table::STATE, b"");
-    coded(c, b"Class", table::CLASS, b"");
-    coded(c, b"Type", table::TYPE, b"");
-    coded(c, b"Date", table::DATE, b"");
-    coded(c, b"Company ID", table::COMPANY_ID, b"");
+fn blanks(rt: &impl Print, c: &[u8]) -> io::Result<()> {
+    coded(rt, c, b"Street Name", table::STREET_NAME, b"")?;
+    coded(rt, c, b"Community", table::COMMUNITY, b"")?;
+    coded(rt, c, b"State", table::STATE, b"")?;
+    coded(rt, c, b"Class", table::CLASS, b"")?;
+    coded(rt, c, b"Type", table::TYPE, b"")?;
+    coded(rt, c, b"Date", table::DATE, b"")?;
+    coded(rt, c, b"Company ID", table::COMPANY_ID, b"")
 }
 
 // In D and U those five are blank or fully good.
-fn blank_or_good() {
-    coded(b"D", b"Street Name", table::STREET_NAME, b" A");
-    coded(b"U", b"Community", table::COMMUNITY, b" A");
-    coded(b"D", b"State", table::STATE, b"O");
-    coded(b"U", b"Class", table::CLASS, b"A");
-    coded(b"D", b"Type", table::TYPE, b"6");
+fn blank_or_good(rt: &impl Print) -> io::Result<()> {
+    coded(rt, b"D", b"Street Name", table::STREET_NAME, b" A")?;
+    coded(rt, b"U", b"Community", table::COMMUNITY, b" A")?;
+    coded(rt, b"D", b"State", table::STATE, b"O")?;
+    coded(rt, b"U", b"Class", table::CLASS, b"A")?;
+    coded(rt, b"D", b"Type", table::TYPE, b"6")
 }
 
 // Of two faults the first by position counts.
-fn first_of_two() {
+fn first_of_two(rt: &impl Print) -> io::Result<()> {
     let kind = Kind::Data;
-    coded(b"X", b"star", table::RECORD_STAR, b"x");
+    coded(rt, b"X", b"star", table::RECORD_STAR, b"x")?;
     cases::two(
+        rt,
         kind,
         b"State",
         table::STATE,
@@ -68,8 +80,9 @@ fn first_of_two() {
         b"House Number",
         table::HOUSE_NUMBER,
         b" 1",
-    );
+    )?;
     cases::two(
+        rt,
         kind,
         b"Class",
         table::CLASS,
@@ -77,26 +90,26 @@ fn first_of_two() {
         b"Type",
         table::TYPE,
         b"6",
-    );
+    )
 }
 
 // A field that is not whole is at fault.
-fn shorts() {
-    cases::short(Kind::Data, 511);
-    cases::short(Kind::Data, 355);
-    cases::short(Kind::Data, 20);
-    cases::short(Kind::Data, 0);
+fn shorts(rt: &impl Print) -> io::Result<()> {
+    cases::short(rt, Kind::Data, 511)?;
+    cases::short(rt, Kind::Data, 355)?;
+    cases::short(rt, Kind::Data, 20)?;
+    cases::short(rt, Kind::Data, 0)
 }
 
-pub fn run() {
-    cases::sample(Kind::Data);
-    fields();
-    printable();
-    blanks(b"C");
-    blanks(b"M");
-    blanks(b"D");
-    blanks(b"U");
-    blank_or_good();
-    first_of_two();
-    shorts();
+pub fn run(rt: &impl Print) -> io::Result<()> {
+    cases::sample(rt, Kind::Data)?;
+    fields(rt)?;
+    printable(rt)?;
+    blanks(rt, b"C")?;
+    blanks(rt, b"M")?;
+    blanks(rt, b"D")?;
+    blanks(rt, b"U")?;
+    blank_or_good(rt)?;
+    first_of_two(rt)?;
+    shorts(rt)
 }

@@ -1,6 +1,7 @@
 // A call: its line names it and what it is lent, `apply_data last=0 version=1 register=(00*520) ..`.
-use crate::{read, write};
+use crate::{read, scan, write};
 use rules::Taken;
+use std::io;
 use taking::take;
 use versions::Version;
 
@@ -8,7 +9,7 @@ const SPACE: u8 = b' ';
 
 // The call's name, the line's first word.
 fn name(line: &[u8]) -> &[u8] {
-    let e = bytes::scan::find(line, 0, line.len(), SPACE);
+    let e = scan::find(line, 0, SPACE);
     &line[0..e]
 }
 
@@ -49,37 +50,47 @@ fn taken(
     take::apply_guide(&register[..], &mut guide[..], file, &mut answers[..], last)
 }
 
-fn returned(t: Taken) {
-    write::number(b"refusal=", t.refusal);
-    write::number(b" place=", t.place);
-    write::number(b" position=", t.position);
-    write::number(b" n=", t.records);
-    write::number(b" done=", t.done);
-    write::number(b" undone=", t.undone);
-    write::number(b" last=", t.last);
+fn returned(rt: &impl Print, t: Taken) -> io::Result<()> {
+    write::number(rt, b"refusal=", t.refusal)?;
+    write::number(rt, b" place=", t.place)?;
+    write::number(rt, b" position=", t.position)?;
+    write::number(rt, b" n=", t.records)?;
+    write::number(rt, b" done=", t.done)?;
+    write::number(rt, b" undone=", t.undone)?;
+    write::number(rt, b" last=", t.last)
 }
 
 // A line's call with its parts: what it returned, and what each part holds then.
-fn call(line: &[u8], register: &mut [u8], guide: &mut [u8], file: &[u8], answers: &mut [u8]) {
+fn call(
+    rt: &impl Print,
+    line: &[u8],
+    register: &mut [u8],
+    guide: &mut [u8],
+    file: &[u8],
+    answers: &mut [u8],
+) -> io::Result<()> {
     let last = read::number(read::value(line, b"last="));
-    returned(taken(
-        name(line),
-        version(line),
-        &mut register[..],
-        &mut guide[..],
-        file,
-        &mut answers[..],
-        last,
-    ));
-    write::part(line, b"register=", &register[..]);
-    write::part(line, b"guide=", &guide[..]);
-    write::part(line, b"file=", file);
-    write::part(line, b"answers=", &answers[..]);
-    write::line_end();
+    returned(
+        rt,
+        taken(
+            name(line),
+            version(line),
+            &mut register[..],
+            &mut guide[..],
+            file,
+            &mut answers[..],
+            last,
+        ),
+    )?;
+    write::part(rt, line, b"register=", &register[..])?;
+    write::part(rt, line, b"guide=", &guide[..])?;
+    write::part(rt, line, b"file=", file)?;
+    write::part(rt, line, b"answers=", &answers[..])?;
+    write::line_end(rt)
 }
 
 // The call of a line. Each part has room for the largest of stdin.
-pub fn run(line: &[u8]) {
+pub fn run(rt: &impl Print, line: &[u8]) -> io::Result<()> {
     let mut register = [0u8; 32768];
     let mut guide = [0u8; 8192];
     let mut file = [0u8; 8192];
@@ -89,10 +100,11 @@ pub fn run(line: &[u8]) {
     let f = read::part(&mut file, line, b"file=");
     let a = read::part(&mut answers, line, b"answers=");
     call(
+        rt,
         line,
         &mut register[0..r],
         &mut guide[0..g],
         &file[0..f],
         &mut answers[0..a],
-    );
+    )
 }

@@ -4,25 +4,48 @@
 // slot, and files of several lines; some lines are of Version 1.
 #![tactic(auto)]
 
+ghost use Rattle.std.specs.Prelude.{◌≤◌, length, IfOk};
+
 mod calls;
 mod read;
+mod scan;
 mod write;
+
+use std::io;
+use std::io::Read;
 
 const LINE_END: u8 = b'\n';
 
 // A call for each line.
-fn each(input: &[u8]) {
+fn each(rt: &impl Print, input: &[u8]) -> io::Result<()> {
     let mut i = 0;
     while i < input.len() {
-        let e = bytes::scan::find(input, i, input.len(), LINE_END);
-        calls::run(&input[i..e]);
+        let e = scan::find(input, i, LINE_END);
+        calls::run(rt, &input[i..e])?;
         i = e + 1;
     }
+    Ok(())
 }
 
-fn main() {
+// Reads to the end of input, or until the buffer is full; how many bytes came.
+fn read_full(rt: &impl Input, input: &mut [u8]) -> io::Result<usize>
+    ensures { IfOk result (λ n. n ≤ length input.new) }
+{
+    let mut reader = rt.reader();
+    let mut n = 0;
+    while n < input.len() {
+        let got = reader.read(&mut input[n..])?;
+        if got == 0 {
+            break;
+        }
+        n += got;
+    }
+    Ok(n)
+}
+
+fn main(rt: HostRuntime) -> io::Result<()> {
     // More than the file stdin has.
     let mut input = [0u8; 393216];
-    let n = io::read_full(0, &mut input);
-    each(&input[..n]);
+    let n = read_full(&rt, &mut input)?;
+    each(&rt, &input[..n])
 }

@@ -1,6 +1,7 @@
 // The values of a line: decimal numbers, and bytes in hexadecimal, where `(HEX*N)` is HEX repeated N times.
 ghost use Rattle.std.specs.Prelude.{◌≤◌, ◌<◌, length};
 
+use crate::scan;
 use text::Class;
 
 const SPACE: u8 = b' ';
@@ -23,7 +24,7 @@ fn begins(word: &[u8], name: &[u8]) -> bool {
 pub fn value<'a>(line: &'a [u8], name: &[u8]) -> &'a [u8] {
     let mut i = 0;
     while i < line.len() {
-        let e = bytes::scan::find(line, i, line.len(), SPACE);
+        let e = scan::find(line, i, SPACE);
         let word = &line[i..e];
         if begins(word, name) {
             return text::part_of(word, name.len(), word.len());
@@ -111,7 +112,7 @@ fn put_piece(out: &mut [u8], at: usize, piece: &[u8]) -> usize
     requires { at ≤ length out.old }
     ensures { result ≤ length out.old }
 {
-    let e = bytes::scan::find(piece, 0, piece.len(), STAR);
+    let e = scan::find(piece, 0, STAR);
     if e < piece.len() {
         return put_times(&mut out[..], at, &piece[0..e], number(&piece[e + 1..]));
     }
@@ -123,8 +124,8 @@ fn piece_end(s: &[u8], i: usize) -> usize
     requires { i ≤ length s.now }
     ensures { (i ≤ result) × (result ≤ length s.now) }
 {
-    let e = bytes::scan::find(s, i, s.len(), CLOSE);
-    bytes::scan::find(s, i, e, OPEN)
+    let e = scan::find(s, i, CLOSE);
+    scan::find(&s[..e], i, OPEN)
 }
 
 // The bytes of a value at the front of out; how many there are.
