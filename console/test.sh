@@ -35,7 +35,7 @@ finish() {
 
 for name in lookup boundary; do
     if [ ! -f "$libs/lib$name.a" ]; then
-        fail "lib$name.a is in $libs" "write it with: rt staticlib $name"
+        fail "lib$name.a is in $libs" "write it with: tools/libraries"
     fi
 done
 if [ "$failed" -ne 0 ]; then
@@ -150,11 +150,12 @@ done
 quiet "libraries link in the other order" gcc -std=c11 "${warnings[@]}" face.c "$boundary" "$lookup" -o face
 runs "nothing lent is refused, other order" 0 "" "" ./face
 
-# exports LIBRARY CALL...: a check that of our calls the library has these alone, so that no old one can still be linked
+# exports LIBRARY CALL...: a check that the library has these calls alone as global names, so that no old one can still
+# be linked, and none clashes with the other library's
 exports() {
     local library=$1 got
     shift
-    got=$(nm -g --defined-only "$library" | sed -n 's/.* T \(hakkiyolu_\)/\1/p' | LC_ALL=C sort)
+    got=$(nm -g --defined-only "$library" | awk 'NF == 3 { print $2 == "T" ? $3 : $0 }' | LC_ALL=C sort)
     if [ "$got" = "$(printf 'hakkiyolu_%s\n' "$@")" ]; then
         ok "${library##*/} has these calls alone: $*"
     else

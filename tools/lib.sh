@@ -11,9 +11,17 @@ need() {
     fi
 }
 
-# Proves and writes the static libraries.
+# Proves and builds the static libraries, and puts them where C callers look for them, under the names that these know.
 libraries() {
-    rt staticlib boundary && rt staticlib lookup
+    mkdir -p target/staticlib \
+        && (cd crates/boundary && rt lib) && cp -f crates/boundary/out/libboundary.a target/staticlib/ \
+        && (cd crates/lookup_c && rt lib) && cp -f crates/lookup_c/out/liblookup_c.a target/staticlib/liblookup.a
+}
+
+# Proves and builds the desk program, and puts it into target/bin. rt also runs what it has built: the desk ends at once, for want of
+# input.
+desk() {
+    (cd crates/desk && rt run < /dev/null > /dev/null) && mkdir -p target/bin && cp -f crates/desk/out/desk target/bin/
 }
 
 # Says what went wrong, and ends once all that was begun has ended.

@@ -1,4 +1,4 @@
-// The lookup that the dispatch console calls: two byte slices in, one packed number out.
+// The lookup that the dispatch console calls: two byte slices in, one packed number out. C gets it from the crate lookup_c.
 #![tactic(auto)]
 
 ghost use Rattle.std.specs.Prelude.{◌≡◌, ◌≤◌, ◌<◌};
@@ -81,8 +81,7 @@ const BIT_32: u64 = 4294967296;
 const BIT_36: u64 = 68719476736;
 
 // The same, in one number: slots looked at in bits 0 to 15, the slot in 16 to 31, the state in 32 to 35, the refusal in 36 to 39.
-#[unsafe(no_mangle)]
-pub extern "C" fn hakkiyolu_lookup(register: &[u8], number: &[u8]) -> u64
+pub fn hakkiyolu_lookup(register: &[u8], number: &[u8]) -> u64
     ensures { LooksUp register.now number.now result }
 {
     let s = look(register, number);
