@@ -1,4 +1,4 @@
--- The cases of narrow_refusal in its order, each with wideSlot's. An entry that find_wide finds is 27 with its slot, which lies in the
+-- The cases of narrow_refusal in its order, each with wide_slot's. An entry that find_wide finds is 27 with its slot, which lies in the
 -- register (find_some), so its number fits in 32 bits. Where there is none, load_size of the count is load_size (size_of), and its
 -- comparison with the room is 0 or 25, with slot 0.
 use mathlib.Core.Path.{refl, sym, ◌∙◌}
