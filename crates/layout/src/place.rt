@@ -212,7 +212,7 @@ pub const ROW_SPAN_SIZE: usize = ROW_POST_AT + ROW_POST_SIZE - ROW_PREFIX_AT;
 
 pub const ROW_PLACE_SIZE: usize = ROW_STATE_AT + ROW_STATE_SIZE - ROW_COMMUNITY_AT;
 
-// Header and trailer. The trailer's letters, date, name and `*` lie where the header's do: `same_frame` of the definitions.
+// Header and trailer. The trailer's letters, date, name and `*` lie where the header's do: `same_frame_lem` of the definitions.
 pub const OPENER_AT: usize = HEADER[3 * table::OPENER] - 1;
 
 pub const FRAME_DATE_AT: usize = HEADER[3 * table::FRAME_DATE] - 1;
