@@ -16,7 +16,7 @@ use Rattle.text.specs.Text.{spelled, on_number, part}
 use Rattle.text.proofs.Laws.{and_left, and_right}
 use Rattle.calendar.specs.declared.Day.{Day}
 use Rattle.calendar.specs.declared.Date.{Date}
-use Rattle.calendar.specs.declared.Date.TheVariants.{Day as aDay, NoDate}
+use Rattle.calendar.specs.declared.Date.TheVariants.{Day as a_day, NoDate}
 use Rattle.calendar.specs.declared.Reading.{Reading}
 use Rattle.calendar.specs.declared.Reading.TheVariants.{Present, Former}
 use Rattle.calendar.specs.Calendar.{leap, month_days, is_day, day_number, day_from, dated, day_of, on_day, no_later}
@@ -86,7 +86,7 @@ date_fits f = dated_both (λ a b. no_later a ≡ true) day_from day_from refl ea
     each : (m d y : ℕ) → no_later (day_from m d y) ≡ true
     each m d y = go (is_day m d y) refl
       where
-        go : (b : Bool) → is_day m d y ≡ b → no_later (cond b (aDay (record { 0 = day_number m d y })) NoDate) ≡ true
+        go : (b : Bool) → is_day m d y ≡ b → no_later (cond b (a_day (record { 0 = day_number m d y })) NoDate) ≡ true
         go false e = refl
         go true e = le-leb (day_number m d y) 36524 (number_most m d y (of_month m d y e))
 
@@ -131,9 +131,9 @@ former_number_lem m d y o = go (leb 70 y) refl (leb m 2) refl (leap y) refl (day
 
 -- the former day of a date, told from the present one
 abbrev as_before : Date → Date
-as_before x = on_day x NoDate (λ d. aDay (record { 0 = formerly d.0 }))
+as_before x = on_day x NoDate (λ d. a_day (record { 0 = formerly d.0 }))
 
-pub former_is : (f : List ℕ) → former_of f ≡ on_day (day_of f) NoDate (λ d. aDay (record { 0 = formerly d.0 }))
+pub former_is : (f : List ℕ) → former_of f ≡ on_day (day_of f) NoDate (λ d. a_day (record { 0 = formerly d.0 }))
 unfolding former_of day_of
 former_is f = dated_both (λ a b. a ≡ as_before b) former_from day_from refl each f
   where
@@ -141,10 +141,10 @@ former_is f = dated_both (λ a b. a ≡ as_before b) former_from day_from refl e
     each m d y = go (is_day m d y) refl
       where
         go : (b : Bool) → is_day m d y ≡ b
-            → cond b (aDay (record { 0 = former_number m d y })) NoDate
-            ≡ as_before (cond b (aDay (record { 0 = day_number m d y })) NoDate)
+            → cond b (a_day (record { 0 = former_number m d y })) NoDate
+            ≡ as_before (cond b (a_day (record { 0 = day_number m d y })) NoDate)
         go false e = refl
-        go true e = ap (λ (n : ℕ). aDay (record { 0 = n })) (former_number_lem m d y (of_month m d y e))
+        go true e = ap (λ (n : ℕ). a_day (record { 0 = n })) (former_number_lem m d y (of_month m d y e))
 
 -- no day has the number that it had before
 pub formerly_other : (n : ℕ) → formerly n ≢ n
@@ -163,13 +163,13 @@ formerly_back n f e h = go (leb 10957 n) refl e
     go false k e = absurd (omega arith)
 
 -- so a date whose former day has a reading has that reading now
-pub anew_is : (f : List ℕ) (d : Day) → former_of f ≡ aDay d → d.0 ≤ 25567 → day_of f ≡ aDay (record { 0 = d.0 + 10957 })
+pub anew_is : (f : List ℕ) (d : Day) → former_of f ≡ a_day d → d.0 ≤ 25567 → day_of f ≡ a_day (record { 0 = d.0 + 10957 })
 anew_is f d e h = go (day_of f) (rw (former_is f) at e)
   where
-    go : (x : Date) → as_before x ≡ aDay d → x ≡ aDay (record { 0 = d.0 + 10957 })
+    go : (x : Date) → as_before x ≡ a_day d → x ≡ a_day (record { 0 = d.0 + 10957 })
     go NoDate q = absurd (let z : ◌≡◌ {A = ℕ} 0 1 = cc in omega arith)
-    go (aDay x) q =
-        ap (λ (n : ℕ). aDay (record { 0 = n })) (formerly_back x.0 d.0 (ap (λ (y : Date). on_day y 0 (λ d. d.0)) q) h)
+    go (a_day x) q =
+        ap (λ (n : ℕ). a_day (record { 0 = n })) (formerly_back x.0 d.0 (ap (λ (y : Date). on_day y 0 (λ d. d.0)) q) h)
 
 -- ---- for the code: the day by either reading, told from the present one
 
@@ -181,8 +181,8 @@ module _ (f : List ℕ) (x : Reading) where
       go Present = e
       go Former = rw (former_is f, ← e) refl
 
-  pub by_present : (d : Day) → x ≡ Present → aDay d ≡ day_of f → aDay d ≡ day_by x f
+  pub by_present : (d : Day) → x ≡ Present → a_day d ≡ day_of f → a_day d ≡ day_by x f
   by_present d p e = rw p e
 
-  pub by_former : (d : Day) (n : ℕ) → x ≡ Former → aDay d ≡ day_of f → n ≡ formerly d.0 → aDay (record { 0 = n }) ≡ day_by x f
+  pub by_former : (d : Day) (n : ℕ) → x ≡ Former → a_day d ≡ day_of f → n ≡ formerly d.0 → a_day (record { 0 = n }) ≡ day_by x f
   by_former d n p e q = rw (p, former_is f, ← e, q) refl

@@ -4,7 +4,7 @@ use Rattle.std.specs.Prelude.{ℕ, ◌+◌, ◌*◌, ◌-◌, ◌/◌, ◌%◌, 
 use Rattle.text.specs.Text.{spelled, on_number, part}
 use Rattle.calendar.specs.declared.Day.{Day}
 use Rattle.calendar.specs.declared.Date.{Date}
-use Rattle.calendar.specs.declared.Date.TheVariants.{Day as aDay, NoDate}
+use Rattle.calendar.specs.declared.Date.TheVariants.{Day as a_day, NoDate}
 
 -- "the lengths of the twelve months stand in a constant table": since 2026-04 here alone; the code works them out, DayLaws `month_is`
 abbrev pub months : List ℕ
@@ -36,7 +36,7 @@ day_number m d y =
     365 * years_of y + (years_of y + 1) / 4 + (367 * m - 362) / 12 - cond (leb m 2) 0 (cond (leap y) 1 2) + d - 1
 
 abbrev pub day_from : ℕ → ℕ → ℕ → Date
-day_from m d y = cond (is_day m d y) (aDay (record { 0 = day_number m d y })) NoDate
+day_from m d y = cond (is_day m d y) (a_day (record { 0 = day_number m d y })) NoDate
 
 -- "Dates are MMDDYY": what is made of the three numbers
 abbrev pub dated : (ℕ → ℕ → ℕ → Date) → List ℕ → Date
@@ -53,7 +53,7 @@ day_of f = dated day_from f
 
 -- what is made of the day, or what stands where there is no date
 abbrev pub on_day : {A : Type 0} → Date → A → (Day → A) → A
-on_day (aDay d) other k = k d
+on_day (a_day d) other k = k d
 on_day NoDate other k = other
 
 -- a slot's day is "at most 36524"
@@ -62,7 +62,7 @@ on_calendar d = leb d.0 36524
 
 -- a day that six bytes name is so by itself
 abbrev pub no_later : Date → Bool
-no_later (aDay d) = on_calendar d
+no_later (a_day d) = on_calendar d
 no_later NoDate = true
 
 -- "1-4 day number, high byte first"

@@ -4,7 +4,7 @@
 use Rattle.std.specs.Prelude.{ℕ, ◌+◌, ◌*◌, ◌-◌, ◌/◌, List, cond, leb}
 use Rattle.calendar.specs.declared.Day.{Day}
 use Rattle.calendar.specs.declared.Date.{Date}
-use Rattle.calendar.specs.declared.Date.TheVariants.{Day as aDay, NoDate}
+use Rattle.calendar.specs.declared.Date.TheVariants.{Day as a_day, NoDate}
 use Rattle.calendar.specs.declared.Reading.{Reading}
 use Rattle.calendar.specs.declared.Reading.TheVariants.{Present, Former}
 use Rattle.calendar.specs.Calendar.{leap, is_day, dated, day_of}
@@ -15,7 +15,7 @@ former_number m d y =
     365 * y + (y + 3) / 4 + (367 * m - 362) / 12 - cond (leb m 2) 0 (cond (leap y) 1 2) + d - 1
 
 abbrev pub former_from : ℕ → ℕ → ℕ → Date
-former_from m d y = cond (is_day m d y) (aDay (record { 0 = former_number m d y })) NoDate
+former_from m d y = cond (is_day m d y) (a_day (record { 0 = former_number m d y })) NoDate
 
 unfoldable pub former_of : List ℕ → Date
 former_of f = dated former_from f
@@ -31,4 +31,4 @@ formerly n = cond (leb 10957 n) (n - 10957) (n + 25568)
 
 -- "adding 10957"; "a stored day above 25567 has no reading now"
 abbrev pub anew : Day → Date
-anew d = cond (leb d.0 25567) (aDay (record { 0 = d.0 + 10957 })) NoDate
+anew d = cond (leb d.0 25567) (a_day (record { 0 = d.0 + 10957 })) NoDate

@@ -36,9 +36,9 @@ late G r c m k p =
     ∷ []
 
 -- the number's own slot, or a spare one
-abbrev settled_by_lem : Found → Found → Found → Decided
-settled_by_lem (At i) p k = record { answer = 0; slot = At i; row = k }
-settled_by_lem Nothing p k = in_spare p k
+abbrev settled_by : Found → Found → Found → Decided
+settled_by (At i) p k = record { answer = 0; slot = At i; row = k }
+settled_by Nothing p k = in_spare p k
 
 not_stored : (c : Code) → stores c ≡ false → is_insert c ≡ false
 not_stored Insert e = e
@@ -116,7 +116,7 @@ module _ (R G : List ℕ) (h : Header) (r : List ℕ) (c : Code) (d : Day) (m k 
         has_row = (first_zero (under G r k) refl y).0
 
 does_settled : (R G : List ℕ) (h : Header) (r : List ℕ) (c : Code) (d : Day) (m k p : Found)
-    → first (early R h.day r c d m) ≡ 0 → stores c ≡ true → first (under G r k) ≡ 0 → Does R G h r c d m k p (settled_by_lem m p k)
+    → first (early R h.day r c d m) ≡ 0 → stores c ≡ true → first (under G r k) ≡ 0 → Does R G h r c d m k p (settled_by m p k)
 unfolding first
 does_settled R G h r c d (At i) k p z s y =
     record {
@@ -140,10 +140,10 @@ does_settled R G h r c d Nothing k Nothing z s y =
       covered = λ e t. has_row R G h r c d Nothing k Nothing z s y;
     }
 
-settled_by : (R : List ℕ) (today : Day) (m k : Found) → settled R today m k ≡ settled_by_lem m (find_spare today R) k
+settled_by_lem : (R : List ℕ) (today : Day) (m k : Found) → settled R today m k ≡ settled_by m (find_spare today R) k
 unfolding settled
-settled_by R today (At i) k = refl
-settled_by R today Nothing k = refl
+settled_by_lem R today (At i) k = refl
+settled_by_lem R today Nothing k = refl
 
 -- without a slot the answer is not 0: the number is absent, so the record is an I, and 20 is for an I that finds no spare slot
 no_slot {ℓ} : {A : Type ℓ} (R G : List ℕ) (h : Header) (r : List ℕ) (c : Code) (d : Day) (m k p : Found)
@@ -184,7 +184,7 @@ module _ (R G : List ℕ) (h : Header) (r : List ℕ) (c : Code) (d : Day) where
       go true ez true sz false uz =
           does_refused R G h r c d (find_number (number_of r) R) (find_row r G) (find_spare h.day R) (eqb-true _ 0 ez) sz (eqb-false _ 0 uz)
       go true ez true sz true uz =
-          rw (settled_by R h.day (find_number (number_of r) R) (find_row r G))
+          rw (settled_by_lem R h.day (find_number (number_of r) R) (find_row r G))
           (does_settled R G h r c d (find_number (number_of r) R) (find_row r G) (find_spare h.day R) (eqb-true _ 0 ez) sz (eqb-true _ 0 uz))
 
   -- x is what was decided of a record with this code and date

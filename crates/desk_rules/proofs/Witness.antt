@@ -19,8 +19,8 @@ use Rattle.desk_rules.specs.Kept.{all_wrote}
 use Rattle.desk_rules.proofs.Programs.{empty_ready, program_writes}
 
 -- so many lines have ended, and this much of the next is typed
-abbrev pub one_slot_lem : ℕ → List ℕ → Desk
-one_slot_lem lines line =
+abbrev pub one_slot : ℕ → List ℕ → Desk
+one_slot lines line =
     record {
       stores = record { register = replicate 520 0; guide = replicate 208 0 };
       guide_last = 0;
@@ -34,9 +34,9 @@ one_slot_lem lines line =
 pub said : List ℕ
 unfolding fed_all ended fed line_ended line_read next_line typed framed collecting taking_guide taking_data looking take_said look_said line_of taken checked register_sound guide_sound good_file lines_in refused_file find unsound_slot slot_sound place good_length state_of slot_day record_of is_zero unsound_row_slot row_slot_sound is_present is_vacant row_of free_row_slot seen seen_in is_number find_number has_number walked number_of
 said =
-    (fed_all (one_slot_lem 0 []) (48 ∷ 50 ∷ 10 ∷ [])).said
-    ++ ((ended (one_slot_lem 1 (48 ∷ 52 ∷ 51 ∷ 53 ∷ 51 ∷ 48 ∷ 51 ∷ 51 ∷ 51 ∷ 53 ∷ 51 ∷ 53 ∷ 51 ∷ 53 ∷ 51 ∷ 48 ∷ 51 ∷ 49 ∷ 51 ∷ 48 ∷ 51 ∷ 48 ∷ []))).said
-    ++ (fed_all (one_slot_lem 2 []) (48 ∷ 10 ∷ [])).said)
+    (fed_all (one_slot 0 []) (48 ∷ 50 ∷ 10 ∷ [])).said
+    ++ ((ended (one_slot 1 (48 ∷ 52 ∷ 51 ∷ 53 ∷ 51 ∷ 48 ∷ 51 ∷ 51 ∷ 51 ∷ 53 ∷ 51 ∷ 53 ∷ 51 ∷ 53 ∷ 51 ∷ 48 ∷ 51 ∷ 49 ∷ 51 ∷ 48 ∷ 51 ∷ 48 ∷ []))).said
+    ++ (fed_all (one_slot 2 []) (48 ∷ 10 ∷ [])).said)
 
 -- a20300000000; a3000001, for one slot was looked at; a40003
 pub example : said ≡ (97 ∷ 50 ∷ 48 ∷ 51 ∷ 48 ∷ 48 ∷ 48 ∷ 48 ∷ 48 ∷ 48 ∷ 48 ∷ 48 ∷ 10 ∷ []) ++ ((97 ∷ 51 ∷ 48 ∷ 48 ∷ 48 ∷ 48 ∷ 48 ∷ 49 ∷ 10 ∷ []) ++ (97 ∷ 52 ∷ 48 ∷ 48 ∷ 48 ∷ 51 ∷ 10 ∷ []))

@@ -31,15 +31,15 @@ three_at s i h =
 -- ---- fields; f is the fault of the field at i
 
 module _ (lax : Bool) (s t : List ℕ) (i f : ℕ) {v : ℕ} (inv : fault_in lax s (drop i t) ≡ v) (h : i + 2 < length t) (e : f ≡ fault_by (get_or t i 0) (get_or t (i + 1) 0) (get_or t (i + 2) 0) lax s (part (from_zero (get_or t i 0)) (get_or t (i + 1) 0) s)) where
-  fault_at : or_else f (fault_in lax s (drop (i + 3) t)) ≡ v
+  fault_at_lem : or_else f (fault_in lax s (drop (i + 3) t)) ≡ v
   unfolding fault_in
-  fault_at = rw e (sym (ap (fault_in lax s) (three_at t i h)) ∙ inv)
+  fault_at_lem = rw e (sym (ap (fault_in lax s) (three_at t i h)) ∙ inv)
 
   pub fault_later : f ≡ 0 → fault_in lax s (drop (i + 3) t) ≡ v
-  fault_later z = rw (eq-eqb f 0 z) at fault_at
+  fault_later z = rw (eq-eqb f 0 z) at fault_at_lem
 
   pub fault_here : (f ≡ 0 → ⊥) → f ≡ v
-  fault_here z = rw (ne_eqb f 0 z) at fault_at
+  fault_here z = rw (ne_eqb f 0 z) at fault_at_lem
 
 -- a field that is known to pass
 pub fault_passed : (lax : Bool) (s t : List ℕ) (i : ℕ) {v : ℕ} → fault_in lax s (drop i t) ≡ v → i + 2 < length t

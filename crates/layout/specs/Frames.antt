@@ -9,9 +9,9 @@ use Rattle.layout.specs.Rules.{fault_in}
 use Rattle.layout.specs.declared.counter.Count.{Count}
 use Rattle.layout.specs.declared.frame.Header.{Header}
 use Rattle.layout.specs.declared.frame.Opened.{Opened}
-use Rattle.layout.specs.declared.frame.Opened.TheVariants.{Header as aHeader, Wrong as no_header}
+use Rattle.layout.specs.declared.frame.Opened.TheVariants.{Header as a_header, Wrong as no_header}
 use Rattle.layout.specs.declared.frame.Closed.{Closed}
-use Rattle.layout.specs.declared.frame.Closed.TheVariants.{Trailer as aTrailer, Wrong as noTrailer}
+use Rattle.layout.specs.declared.frame.Closed.TheVariants.{Trailer as a_trailer, Wrong as no_trailer}
 
 -- where a frame's letters, date, company name, counter and `*` start, and how many bytes each but the counter has
 abbrev pub common_places : List ℕ → ℕ → List ℕ
@@ -35,12 +35,12 @@ name_of s = field header name s
 
 -- what is made of a header or a trailer, or what stands where it is wrong
 abbrev pub on_header : {A : Type 0} → Opened → A → (Header → A) → A
-on_header (aHeader h) other k = k h
+on_header (a_header h) other k = k h
 on_header no_header other k = other
 
 abbrev pub on_trailer : {A : Type 0} → Closed → A → (Count → A) → A
-on_trailer (aTrailer c) other k = k c
-on_trailer noTrailer other k = other
+on_trailer (a_trailer c) other k = k c
+on_trailer no_trailer other k = other
 
 -- a header by table t: each field keeps its rule; its day and its cycle
 unfoldable pub header_of : List ℕ → List ℕ → Opened
@@ -48,7 +48,7 @@ header_of t s =
     cond (eqb (fault_in false s t) 0)
     (on_day (day_of (date_of s)) no_header (λ d.
     on_cycle (cycle_of (field header cycle s)) no_header (λ c.
-    aHeader (record { day = d; cycle = c }))))
+    a_header (record { day = d; cycle = c }))))
     no_header
 
 -- "its date or name differs from the header's"
@@ -59,8 +59,8 @@ same_frame h s = same_bytes (date_of h) (date_of s) && same_bytes (name_of h) (n
 unfoldable pub trailer_of : List ℕ → List ℕ → List ℕ → Closed
 trailer_of t h s =
     cond (eqb (fault_in false s t) 0)
-    (cond (same_frame h s) (on_count (count_of (field trailer count s)) noTrailer aTrailer) noTrailer)
-    noTrailer
+    (cond (same_frame h s) (on_count (count_of (field trailer count s)) no_trailer a_trailer) no_trailer)
+    no_trailer
 
 -- ---- writing
 

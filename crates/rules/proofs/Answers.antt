@@ -15,7 +15,7 @@ use Rattle.text.proofs.Laws.{and_left, and_right, and_false}
 use Rattle.calendar.specs.declared.Day.{Day}
 use Rattle.layout.specs.declared.frame.Header.{Header}
 use Rattle.layout.specs.declared.frame.Opened.{Opened}
-use Rattle.layout.specs.declared.frame.Opened.TheVariants.{Header as aHeader, Wrong as no_header}
+use Rattle.layout.specs.declared.frame.Opened.TheVariants.{Header as a_header, Wrong as no_header}
 use Rattle.layout.specs.Fields.{number_of}
 use Rattle.layout.specs.Frames.{on_header}
 use Rattle.layout.specs.Counters.{given_cycle}
@@ -114,11 +114,11 @@ both_nothing Nothing b e = (refl, is_nothing_lem b e)
 
 module _ (R G : List ℕ) (h : Header) (r : List ℕ) (c : Code) (d : Day) where
   -- the last test of the table
-  abbrev isFull : Bool
-  isFull = is_insert c && (is_nothing (find_number (number_of r) R) && is_nothing (find_spare h.day R))
+  abbrev is_full : Bool
+  is_full = is_insert c && (is_nothing (find_number (number_of r) R) && is_nothing (find_spare h.day R))
 
   -- says that it is I, and that the number, a free slot and a reusable one were each sought in vain
-  full_of : isFull ≡ true → Full R h r c
+  full_of : is_full ≡ true → Full R h r c
   unfolding find_spare find_free find_reusable free_at reusable_at
   full_of e =
       let n = is_nothing (find_number (number_of r) R) in
@@ -132,7 +132,7 @@ module _ (R G : List ℕ) (h : Header) (r : List ℕ) (c : Code) (d : Day) where
         reusable = find_none (reusable_at h.day R) (slots R) b.1;
       }
 
-  of_full : Full R h r c → isFull ≡ true
+  of_full : Full R h r c → is_full ≡ true
   unfolding find_spare find_free find_reusable free_at reusable_at
   of_full f =
       rw (
@@ -148,7 +148,7 @@ unfolding FullsAnswer answer_of hit_by numbers_in
 full_answered R G h r c d =
     let t = table R G h r c d (find_number (number_of r) R) (find_row r G) (find_spare h.day R) in
     record {
-      means = λ e. full_of R G h r c d (or_none (isFull R G h r c d) (first_hit 20 t (omega arith) e));
+      means = λ e. full_of R G h r c d (or_none (is_full R G h r c d) (first_hit 20 t (omega arith) e));
       then = λ f. first_some 20 (drop 1 record_numbers) t (rw (of_full R G h r c d f) refl) refl;
     }
   where
@@ -308,7 +308,7 @@ load_by P v R date company c room p0 p1 p25 p26 p27 = sound (register_sound R)
 
     opened : (o : Opened) → P (on_header o 26 (λ h. on_found (find (later_at h.day R) (slots R)) (narrow_refusal v R room) (λ i. 26)))
     opened no_header = p26
-    opened (aHeader h) = found (find (later_at h.day R) (slots R))
+    opened (a_header h) = found (find (later_at h.day R) (slots R))
 
     sound : (b : Bool) → P (cond b (header_refusal v R date company c room) 1)
     sound true = opened (load_header v date company c)

@@ -14,7 +14,7 @@ use Rattle.text.specs.Text.{part}
 use Rattle.text.proofs.Laws.{and_left, and_right}
 use Rattle.calendar.specs.declared.Day.{Day}
 use Rattle.calendar.specs.declared.Date.{Date}
-use Rattle.calendar.specs.declared.Date.TheVariants.{Day as aDay, NoDate}
+use Rattle.calendar.specs.declared.Date.TheVariants.{Day as a_day, NoDate}
 use Rattle.calendar.specs.declared.Reading.TheVariants.{Former}
 use Rattle.calendar.specs.Calendar.{on_day, on_calendar, is_before, day_of}
 use Rattle.calendar.specs.Former.{former_of, formerly, anew}
@@ -37,10 +37,10 @@ use Rattle.rules.proofs.KeepSound.{AllSound, slots_sound, slots_sound_by, regist
 -- ---- a day read anew
 
 -- a day that has a reading is moved
-day_moved : (d x : Day) → anew d ≡ aDay x → x.0 ≡ d.0 + 10957
+day_moved : (d x : Day) → anew d ≡ a_day x → x.0 ≡ d.0 + 10957
 day_moved d x e = go (leb d.0 25567) e
   where
-    go : (b : Bool) → cond b (aDay (record { 0 = d.0 + 10957 })) NoDate ≡ aDay x → x.0 ≡ d.0 + 10957
+    go : (b : Bool) → cond b (a_day (record { 0 = d.0 + 10957 })) NoDate ≡ a_day x → x.0 ≡ d.0 + 10957
     go true e = sym (ap (λ (y : Date). on_day y 0 (λ z. z.0)) e)
     go false e = let z : ◌≡◌ {A = ℕ} 0 1 = cc in absurd (omega arith)
 
@@ -85,7 +85,7 @@ length_converted s l = go _ (is_used (state_of s)) (anew (slot_day s))
     go : (state : ℕ) (b : Bool) (x : Date) → length (cond b (on_day x s (λ d. restated state d s)) s) ≡ 520
     go state false x = l
     go state true NoDate = l
-    go state true (aDay d) = ap length (restated_slot state d s l) ∙ length_slot state d (record_of s) (record_length s l)
+    go state true (a_day d) = ap length (restated_slot state d s l) ∙ length_slot state d (record_of s) (record_length s l)
 
 -- bytes 5 to 7, where they are zero
 zeros_at : (s : List ℕ) → length s ≡ 520 → is_zero (part 5 3 s) ≡ true → part 5 3 s ≡ 0 ∷ 0 ∷ 0 ∷ []
@@ -119,7 +119,7 @@ module _ (s : List ℕ) (l : length s ≡ 520) (u : is_used (state_of s) ≡ tru
       (and_rest (is_used (state_of s)) (on_day (anew (slot_day s)) true (λ d. false)) u late)
     where
       go : (b : Bool) → leb (slot_day s).0 25567 ≡ b
-          → on_day (cond b (aDay (record { 0 = (slot_day s).0 + 10957 })) NoDate) true (λ d. false) ≡ false → (slot_day s).0 ≤ 25567
+          → on_day (cond b (a_day (record { 0 = (slot_day s).0 + 10957 })) NoDate) true (λ d. false) ≡ false → (slot_day s).0 ≤ 25567
       go true e q = leb-true (slot_day s).0 25567 e
       go false e q = clash-bool refl q
 
@@ -158,7 +158,7 @@ module _ (s : List ℕ) (l : length s ≡ 520) (u : is_used (state_of s) ≡ tru
         go : (f : List ℕ) (x : Date) → former_of f ≡ x → on_day x false (λ d. day_fits (state_of s) (slot_day s) d) ≡ true
             → on_day (day_of f) false (λ x. day_fits (state_of s) then x) ≡ true
         go f NoDate e h = clash-bool h refl
-        go f (aDay x) e h =
+        go f (a_day x) e h =
             let y : Day = record { 0 = x.0 + 10957 } in
             let n = no_later_lem (state_of s) (slot_day s) x h in
             rw (anew_is f x e (omega (arith, early))) (fits_moved (state_of s) (slot_day s) x then y refl refl early h)
@@ -244,19 +244,19 @@ module _ (R : List ℕ) where
     was : AllSound 520 (slot_sound_by Former) R
     was = slots_sound_by Former R former
 
-    abbrev then-all : List ℕ
-    then-all = converted_to R (slots R)
+    abbrev then_all : List ℕ
+    then_all = converted_to R (slots R)
 
-    all_length : length then-all ≡ length R
+    all_length : length then_all ≡ length R
     all_length = converted_length (slots R) (omega arith)
 
-    all_at : (k : ℕ) → k < slots R → slot_at then-all k ≡ converted_slot (slot_at R k)
+    all_at : (k : ℕ) → k < slots R → slot_at then_all k ≡ converted_slot (slot_at R k)
     all_at k h = converted_at (slots R) (omega arith) k h
 
     not_late : (k : ℕ) → k < slots R → late_at R k ≡ false
     not_late k h = find_none (late_at R) (slots R) none k h
 
-    convert_done : ConvertDone R then-all
+    convert_done : ConvertDone R then_all
     unfolding late_at
     convert_done =
         record {
@@ -265,14 +265,14 @@ module _ (R : List ℕ) where
           moved = λ k h.
               rw (all_at k h) (moved_slot (slot_at R k) (length_slot_at R k h) (was.each k h) (not_late k h));
           sound =
-              register_sound_lem then-all
+              register_sound_lem then_all
               record {
-                long = same_good 520 R then-all all_length was.long;
+                long = same_good 520 R then_all all_length was.long;
                 each = λ k h. each k (rw all_length at h);
               };
         }
       where
-        each : (k : ℕ) → k < slots R → slot_sound (slot_at then-all k) ≡ true
+        each : (k : ℕ) → k < slots R → slot_sound (slot_at then_all k) ≡ true
         each k h = rw (all_at k h) (sound_slot (slot_at R k) (length_slot_at R k h) (was.each k h) (not_late k h))
 
 pub convert_answered : ConvertsAnswer
@@ -326,9 +326,9 @@ module _ (R S : List ℕ) (same : length S ≡ length R) (moved : (k : ℕ) → 
       → (i < slots R) × (p (state_of (slot_at R i)) ≡ true)
   was_at p i u = let w : i < slots R = rw same at u.0 in (w, rw (moved i w).state at u.1)
 
-  one_slot : OneSlot R → OneSlot S
+  one_slot_lem : OneSlot R → OneSlot S
   unfolding OneSlot
-  one_slot o i j u v e =
+  one_slot_lem o i j u v e =
       let a = was_at is_used i u in
       let b = was_at is_used j v in
       o i j a b (rw ((moved i a.0).line, (moved j b.0).line) at e)
@@ -344,7 +344,7 @@ convert_keeps R G e k =
     let S = (conversion R).register in
     let m = (c.done e).moved in
     record {
-      numbers = one_slot R S c.sized m k.numbers;
+      numbers = one_slot_lem R S c.sized m k.numbers;
       houses = k.houses;
       entries = all_lie R S c.sized m G k.entries;
     }
@@ -367,10 +367,10 @@ unlike : (f : List ℕ) (b : ℕ) (day : Day) → is_held b ≡ true → on_day 
     → on_day (day_of f) false (λ d. day_fits b day d) ≡ true → ⊥
 unlike f b day h p q = go (day_of f) (rw (former_is f) at p) q
   where
-    go : (x : Date) → on_day (on_day x NoDate (λ d. aDay (record { 0 = formerly d.0 }))) false (λ d. day_fits b day d) ≡ true
+    go : (x : Date) → on_day (on_day x NoDate (λ d. a_day (record { 0 = formerly d.0 }))) false (λ d. day_fits b day d) ≡ true
         → on_day x false (λ d. day_fits b day d) ≡ true → ⊥
     go NoDate p q = clash-bool q refl
-    go (aDay x) p q = formerly_other x.0 (held_day b day (record { 0 = formerly x.0 }) h p ∙ sym (held_day b day x h q))
+    go (a_day x) p q = formerly_other x.0 (held_day b day (record { 0 = formerly x.0 }) h p ∙ sym (held_day b day x h q))
 
 -- and no slot that is sound by both is held
 not_held : (s : List ℕ) → slot_sound_by Former s ≡ true → slot_sound s ≡ true → is_held (state_of s) ≡ false

@@ -15,14 +15,14 @@ use Rattle.text.proofs.Laws.{and_left, and_right, same_refl}
 use Rattle.text.proofs.DigitLaws.{all_append, digits_all, left_length, right_length}
 use Rattle.layout.proofs.CounterLaws.{cycle_back, count_back}
 use Rattle.calendar.specs.declared.Date.{Date}
-use Rattle.calendar.specs.declared.Date.TheVariants.{Day as aDay, NoDate}
+use Rattle.calendar.specs.declared.Date.TheVariants.{Day as a_day, NoDate}
 use Rattle.calendar.specs.Calendar.{day_of, on_day}
 use Rattle.layout.specs.declared.frame.Header.{Header}
-use Rattle.layout.specs.declared.frame.Opened.TheVariants.{Header as aHeader, Wrong as no_header}
-use Rattle.layout.specs.declared.frame.Closed.TheVariants.{Trailer as aTrailer}
+use Rattle.layout.specs.declared.frame.Opened.TheVariants.{Header as a_header, Wrong as no_header}
+use Rattle.layout.specs.declared.frame.Closed.TheVariants.{Trailer as a_trailer}
 use Rattle.layout.specs.declared.counter.Cycle.{Cycle}
 use Rattle.layout.specs.declared.counter.Turn.{Turn}
-use Rattle.layout.specs.declared.counter.Turn.TheVariants.{Cycle as aCycle, NoCycle}
+use Rattle.layout.specs.declared.counter.Turn.TheVariants.{Cycle as a_cycle, NoCycle}
 use Rattle.layout.specs.Tables.{header, header_table, trailer_table, field, cycle, mmddyy, named, closing, tally, free, star}
 use Rattle.layout.specs.Counters.{cycle_of, on_cycle}
 use Rattle.layout.specs.Rules.{from_zero, is_tally, keeps_frame, keeps_other, keeps, is_whole, fault_by, fault_in}
@@ -32,7 +32,7 @@ use Rattle.versions.specs.declared.Version.TheVariants.{One, Two}
 use Rattle.rules.specs.declared.Kind.TheVariants.{Data}
 use Rattle.rules.specs.Takes.{shape_of}
 use Rattle.rules.proofs.SlotLaws.{put_is}
-use Rattle.rules.proofs.SoundLaws.{no_fault, fault_at, fault_alike}
+use Rattle.rules.proofs.SoundLaws.{no_fault, fault_at_lem, fault_alike}
 
 -- ---- parts of lists that follow one another
 
@@ -155,24 +155,24 @@ print_count n = go (leb (width n) 9)
 -- what a header that is read has in it
 record HeaderRead (v : Version) (s : List ℕ) (h : Header) : Type 0 where
   good : fault_in false s (header_table (frame_of v)) ≡ 0
-  turns : cycle_of (field header cycle s) ≡ aCycle h.cycle
+  turns : cycle_of (field header cycle s) ≡ a_cycle h.cycle
 
 -- a wrong one is none
-wrong : {A : Type 0} (h : Header) → no_header ≡ aHeader h → A
+wrong : {A : Type 0} (h : Header) → no_header ≡ a_header h → A
 wrong h e = let z : ◌≡◌ {A = ℕ} 0 1 = cc in absurd (omega arith)
 
 -- it has them if it is read
-header_read : (v : Version) (s : List ℕ) (h : Header) → header_of (header_table (frame_of v)) s ≡ aHeader h → HeaderRead v s h
+header_read : (v : Version) (s : List ℕ) (h : Header) → header_of (header_table (frame_of v)) s ≡ a_header h → HeaderRead v s h
 unfolding header_of
 header_read v s h e = go (eqb (fault_in false s (header_table (frame_of v))) 0) refl (day_of (date_of s)) (cycle_of (field header cycle s)) refl e
   where
     go : (b : Bool) → eqb (fault_in false s (header_table (frame_of v))) 0 ≡ b → (x : Date) (c : Turn) → cycle_of (field header cycle s) ≡ c
-        → cond b (on_day x no_header (λ d. on_cycle c no_header (λ c. aHeader (record { day = d; cycle = c })))) no_header ≡ aHeader h
+        → cond b (on_day x no_header (λ d. on_cycle c no_header (λ c. a_header (record { day = d; cycle = c })))) no_header ≡ a_header h
         → HeaderRead v s h
-    go true p (aDay d) (aCycle c) q e =
+    go true p (a_day d) (a_cycle c) q e =
         let i : record { day = d; cycle = c } ≡ h = cc in
-        record { good = eqb-true (fault_in false s (header_table (frame_of v))) 0 p; turns = q ∙ ap (λ (x : Header). aCycle x.cycle) i }
-    go true p (aDay d) NoCycle q e = wrong h e
+        record { good = eqb-true (fault_in false s (header_table (frame_of v))) 0 p; turns = q ∙ ap (λ (x : Header). a_cycle x.cycle) i }
+    go true p (a_day d) NoCycle q e = wrong h e
     go true p NoDate c q e = wrong h e
     go false p x c q e = wrong h e
 
@@ -233,13 +233,13 @@ module _ (v : Version) (date company : List ℕ) (b : length date ≡ 6) (c : le
 
   -- the cycle that is read is the one that was written
   pub cycle_read : (t : ℕ) (h : Header) → 1 ≤ t → t ≤ 999999
-      → header_of (header_table (frame_of v)) (header_with date company t (frame_of v)) ≡ aHeader h
+      → header_of (header_table (frame_of v)) (header_with date company t (frame_of v)) ≡ a_header h
       → h.cycle.0 ≡ t
   cycle_read t h x y e =
       let r = header_read v (header_with date company t (frame_of v)) h e in
       let i : field header cycle (header_with date company t (frame_of v)) ≡ left_digits t (spaces 6) =
       ap (part 61 6) (header_is t) ∙ opened_cycle t in
-      let j : aCycle h.cycle ≡ aCycle (record { 0 = t }) = sym r.turns ∙ ap cycle_of i ∙ cycle_back t x y in
+      let j : a_cycle h.cycle ≡ a_cycle (record { 0 = t }) = sym r.turns ∙ ap cycle_of i ∙ cycle_back t x y in
       let k : h.cycle ≡ record { 0 = t } = cc in
       ap (λ (x : Cycle). x.0) k
 
@@ -250,13 +250,13 @@ module _ (v : Version) (date company : List ℕ) (b : length date ≡ 6) (c : le
     date_good =
         rw (closed_date n)
         (fault_alike 6 6 mmddyy false (closed n) (opened t) date refl
-        ∙ rw (opened_date t) at (fault_at false (opened t) 1 (header_table (frame_of v)) good))
+        ∙ rw (opened_date t) at (fault_at_lem false (opened t) 1 (header_table (frame_of v)) good))
 
     name_good : fault_by 12 50 named false (closed n) (part 11 50 (closed n)) ≡ 0
     name_good =
         rw (closed_name n)
         (fault_alike 12 50 named false (closed n) (opened t) company refl
-        ∙ rw (opened_name t) at (fault_at false (opened t) 2 (header_table (frame_of v)) good))
+        ∙ rw (opened_name t) at (fault_at_lem false (opened t) 2 (header_table (frame_of v)) good))
 
     -- and so do the others
     trailer_good : n ≤ 999999999 → fault_in false (closed n) (trailer_table (frame_of v)) ≡ 0
@@ -278,9 +278,9 @@ module _ (v : Version) (date company : List ℕ) (b : length date ≡ 6) (c : le
 
   -- the trailer is read back beside its header
   pub trailer_read : (t n : ℕ) (h : Header) → n ≤ 999999999
-      → header_of (header_table (frame_of v)) (header_with date company t (frame_of v)) ≡ aHeader h
+      → header_of (header_table (frame_of v)) (header_with date company t (frame_of v)) ≡ a_header h
       → trailer_of (trailer_table (frame_of v)) (header_with date company t (frame_of v)) (trailer_with date company n (frame_of v))
-      ≡ aTrailer (record { 0 = n })
+      ≡ a_trailer (record { 0 = n })
   unfolding trailer_of same_frame date_of name_of
   trailer_read t n h x e =
       let g : fault_in false (opened t) (header_table (frame_of v)) ≡ 0 =

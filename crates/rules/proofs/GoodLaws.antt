@@ -15,9 +15,9 @@ use Rattle.layout.specs.declared.frame.Header.{Header}
 use Rattle.layout.specs.declared.counter.Cycle.{Cycle}
 use Rattle.layout.specs.declared.counter.Count.{Count}
 use Rattle.layout.specs.declared.frame.Opened.{Opened}
-use Rattle.layout.specs.declared.frame.Opened.TheVariants.{Header as aHeader, Wrong as no_header}
+use Rattle.layout.specs.declared.frame.Opened.TheVariants.{Header as a_header, Wrong as no_header}
 use Rattle.layout.specs.declared.frame.Closed.{Closed}
-use Rattle.layout.specs.declared.frame.Closed.TheVariants.{Trailer as aTrailer, Wrong as noTrailer}
+use Rattle.layout.specs.declared.frame.Closed.TheVariants.{Trailer as a_trailer, Wrong as no_trailer}
 use Rattle.layout.specs.Tables.{header_table, trailer_table}
 use Rattle.layout.specs.Counters.{is_next_of, is_count}
 use Rattle.layout.specs.Frames.{header_of, trailer_of, on_header, on_trailer}
@@ -54,14 +54,14 @@ module _ (P : Checked → Type 0) where
   on_found_lem Nothing x k p q = p refl
 
   -- of a header
-  on_header_lem : (o : Opened) (x : Checked) (k : Header → Checked) → P x → ((h : Header) → o ≡ aHeader h → P (k h)) → P (on_header o x k)
-  on_header_lem (aHeader h) x k p q = q h refl
+  on_header_lem : (o : Opened) (x : Checked) (k : Header → Checked) → P x → ((h : Header) → o ≡ a_header h → P (k h)) → P (on_header o x k)
+  on_header_lem (a_header h) x k p q = q h refl
   on_header_lem no_header x k p q = p
 
   -- of a trailer
-  on_trailer_lem : (o : Closed) (x : Checked) (k : Count → Checked) → P x → ((c : Count) → o ≡ aTrailer c → P (k c)) → P (on_trailer o x k)
-  on_trailer_lem (aTrailer c) x k p q = q c refl
-  on_trailer_lem noTrailer x k p q = p
+  on_trailer_lem : (o : Closed) (x : Checked) (k : Count → Checked) → P x → ((c : Count) → o ≡ a_trailer c → P (k c)) → P (on_trailer o x k)
+  on_trailer_lem (a_trailer c) x k p q = q c refl
+  on_trailer_lem no_trailer x k p q = p
 
 -- no line is bad where none is found
 lines_good : (k : Kind) (f : List ℕ) → find (bad_line k f) (lines_in k f) ≡ Nothing

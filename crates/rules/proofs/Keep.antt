@@ -43,7 +43,7 @@ use Rattle.rules.proofs.KeepHistory.{state_left, filled_with, AllTold, AllState,
 -- of the stores, of the history, and of both
 pub record Kept (n m : ℕ) (o : Office) : Type 0 where
   pub sized : Sized n m o.stores
-  pub one_slot : OneSlot o.stores.register
+  pub one_slot_lem : OneSlot o.stores.register
   pub one_row : OneRow o.stores.guide
   pub all_under : AllUnder o.stores.register o.stores.guide
   pub all_told : AllTold o.stores.register o.history
@@ -73,11 +73,11 @@ keep_line (Data v) h l s past x e p =
     let t = accepted_took R G h r a in
     record {
       sized = record { register = same_length R G h r c d S w t ∙ p.sized.register; guide = p.sized.guide };
-      one_slot = keep_one R G h r c d S w t p.one_slot;
+      one_slot_lem = keep_one R G h r c d S w t p.one_slot_lem;
       one_row = p.one_row;
       all_under = keep_under R G h r c d S w t p.all_under;
-      all_told = keep_told R G h r c d S w t past a.filed p.one_slot p.all_told;
-      all_state = keep_state R G h r c d S w t past a.filed p.one_slot p.all_state;
+      all_told = keep_told R G h r c d S w t past a.filed p.one_slot_lem p.all_told;
+      all_state = keep_state R G h r c d S w t past a.filed p.one_slot_lem p.all_state;
       all_kept = keep_kept R G h r c d S w t past a.filed p.all_state p.all_kept;
       lawful = keep_lawful R G h r c d S w t past a.filed p.all_state p.all_told p.all_kept p.lawful;
       counted = keep_counted R G h r c d S w t past a.filed p.counted;
@@ -89,7 +89,7 @@ keep_line Guide h g s past w e p =
     let t = row_accepted_took R G h g e in
     record {
       sized = record { register = p.sized.register; guide = same_guide_length R G g (row_code_of g) K w t ∙ p.sized.guide };
-      one_slot = p.one_slot;
+      one_slot_lem = p.one_slot_lem;
       one_row = keep_row R G g (row_code_of g) K w t p.one_row;
       all_under = keep_under_row R G g (row_code_of g) K w t p.all_under;
       all_told = told_row R g past p.all_told;
@@ -157,7 +157,7 @@ kept_start n m =
     let R : List ℕ = replicate (n * 520) 0 in
     record {
       sized = record { register = length-replicate (n * 520) 0; guide = length-replicate (m * 208) 0 };
-      one_slot = λ i j u v e. clash-bool u.1 (no_use i);
+      one_slot_lem = λ i j u v e. clash-bool u.1 (no_use i);
       one_row = λ k l a b x u v y z. clash-bool u.1 (empty_row_slot (m * 208) k);
       all_under = λ i u. clash-bool u.1 (no_entry i);
       all_told = λ i u. clash-bool u.1 (no_use i);
@@ -207,7 +207,7 @@ module _ {n m : ℕ} (o : Office) (p : Kept n m o) where
   unfolding AllUnder AllLie
   stores_kept =
       record {
-        numbers = p.one_slot;
+        numbers = p.one_slot_lem;
         houses = p.one_row;
         entries = λ i u.
             let l = p.all_under i u in (

@@ -13,7 +13,7 @@ use Rattle.text.specs.Text.{part}
 use Rattle.text.proofs.Laws.{and_left, and_right}
 use Rattle.calendar.specs.declared.Day.{Day}
 use Rattle.calendar.specs.declared.Date.{Date}
-use Rattle.calendar.specs.declared.Date.TheVariants.{Day as aDay, NoDate}
+use Rattle.calendar.specs.declared.Date.TheVariants.{Day as a_day, NoDate}
 use Rattle.calendar.specs.declared.Reading.{Reading}
 use Rattle.calendar.specs.declared.Reading.TheVariants.{Present}
 use Rattle.calendar.specs.Calendar.{on_day, on_calendar, no_later, is_before}
@@ -113,7 +113,7 @@ same_good w s t l e = rw l e
 
 -- its date is d, which a slot can have, and its function byte is that of an entry if the code stores
 record Reads (r : List ℕ) (c : Code) (d : Day) : Type 0 where
-  dated : date_of r ≡ aDay d
+  dated : date_of r ≡ a_day d
   coded : stores c ≡ true → is_entry_code (function_of r) ≡ true
   fits : on_calendar d ≡ true
 
@@ -154,9 +154,9 @@ reads r c d e = go (eqb (length r) 512) (date_of r) refl e
         → Reads r c d
     go false x q e = no_record c d e
     go true NoDate q e = no_record c d e
-    go true (aDay x) q e =
+    go true (a_day x) q e =
         let f = coded_as (function_of r) x c d e in
-        record { dated = q ∙ ap aDay f.0; coded = f.1; fits = rw (q ∙ ap aDay f.0) at (record_fits r) }
+        record { dated = q ∙ ap a_day f.0; coded = f.1; fits = rw (q ∙ ap a_day f.0) at (record_fits r) }
 
 -- ---- a slot that is written
 
@@ -239,7 +239,7 @@ day_kept c b d e x s l o f =
 -- so it is for the date that a record has, if it has one
 date_kept : (c : Code) (b : ℕ) (d e : Day) (x : Date) → stores c ≡ false → is_before d e ≡ false → on_calendar d ≡ true
     → on_day x false (λ x. day_fits b e x) ≡ true → on_day x false (λ x. day_fits (state_after c) d x) ≡ true
-date_kept c b d e (aDay x) s l o f = day_kept c b d e x s l o f
+date_kept c b d e (a_day x) s l o f = day_kept c b d e x s l o f
 date_kept c b d e NoDate s l o f = f
 
 -- ---- a row in a sound guide

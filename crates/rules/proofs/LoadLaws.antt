@@ -154,8 +154,8 @@ module _ (r : List ℕ) (k : Whole r) where
       (λ j h. ap (λ x. is_present (row_slot_at G j) && x) (covers_load (row_of (row_slot_at G j))))
 
 -- a field of the table looks at no other field, and is clear of both bytes or is one of them
-abbrev field_loads_lem : ℕ → ℕ → ℕ → Bool
-field_loads_lem at n q =
+abbrev field_loads : ℕ → ℕ → ℕ → Bool
+field_loads at n q =
     looks_apart q
     && (clear_of_both (from_zero at) n
     || ((eqb (from_zero at) function_at && (eqb n 1 && eqb q code))
@@ -171,10 +171,10 @@ module _ (r : List ℕ) (k : Whole r) where
   source_part = part_one (for_load r) source_at (omega (arith, whole_load r k)) ∙ ap (λ x. x ∷ []) (source_load r k)
 
   -- a field keeps its rule
-  field_loads : (at n q : ℕ) → field_loads_lem at n q ≡ true → fault_by at n q false r (part (from_zero at) n r) ≡ 0
+  field_loads_lem : (at n q : ℕ) → field_loads at n q ≡ true → fault_by at n q false r (part (from_zero at) n r) ≡ 0
       → fault_by at n q false (for_load r) (part (from_zero at) n (for_load r)) ≡ 0
   unfolding fault_by is_whole keeps keeps_other
-  field_loads at n q a e =
+  field_loads_lem at n q a e =
       go (clear_of_both (from_zero at) n) refl (eqb (from_zero at) function_at && (eqb n 1 && eqb q code)) refl
       (and_right (looks_apart q) two a)
     where
@@ -205,7 +205,7 @@ module _ (r : List ℕ) (k : Whole r) where
   -- so a record of good form with another code than D and U has it still
   pub fault_load : is_lax (function_of r) ≡ false → record_fault data_record r ≡ 0 → record_fault data_record (for_load r) ≡ 0
   unfolding record_fault
-  fault_load l e = rw (function_load r k) (fields_keep field_loads_lem false r (for_load r) field_loads data_record refl (rw l at e))
+  fault_load l e = rw (function_load r k) (fields_keep field_loads false r (for_load r) field_loads_lem data_record refl (rw l at e))
 
 -- ---- either version
 

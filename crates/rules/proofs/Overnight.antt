@@ -15,7 +15,7 @@ use Rattle.text.specs.Text.{member_of}
 use Rattle.layout.specs.declared.frame.Header.{Header}
 use Rattle.layout.specs.declared.counter.Cycle.{Cycle}
 use Rattle.layout.specs.declared.counter.Turn.{Turn}
-use Rattle.layout.specs.declared.counter.Turn.TheVariants.{Cycle as aCycle, NoCycle}
+use Rattle.layout.specs.declared.counter.Turn.TheVariants.{Cycle as a_cycle, NoCycle}
 use Rattle.layout.specs.Counters.{given_cycle, next_of, on_cycle, is_next_of}
 use Rattle.rules.specs.declared.Kind.{Kind}
 use Rattle.rules.specs.Takes.{Stores, lines_in, refuse, frame_checked, checked, refused_file, taken}
@@ -33,7 +33,7 @@ one_next : (last c d : Cycle) → is_next_of last c ≡ true → is_next_of last
 one_next last c d = go (next_of last)
   where
     go : (t : Turn) → on_cycle t false (λ n. eqb n.0 c.0) ≡ true → on_cycle t false (λ n. eqb n.0 d.0) ≡ true → c.0 ≡ d.0
-    go (aCycle n) p q = sym (eqb-true n.0 c.0 p) ∙ eqb-true n.0 d.0 q
+    go (a_cycle n) p q = sym (eqb-true n.0 c.0 p) ∙ eqb-true n.0 d.0 q
     go NoCycle p q = clash-bool p refl
 
 -- no cycle is its own next: the one after c is c + 1, the one after 999999 is 1
@@ -41,7 +41,7 @@ not_own_next : (c d : Cycle) → c.0 ≡ d.0 → is_next_of c d ≡ false
 not_own_next c d e = go (ltb c.0 999999) (eqb c.0 999999) refl
   where
     go : (l m : Bool) → eqb c.0 999999 ≡ m
-        → on_cycle (cond l (aCycle (record { 0 = c.0 + 1 })) (cond m (aCycle (record { 0 = 1 })) NoCycle)) false
+        → on_cycle (cond l (a_cycle (record { 0 = c.0 + 1 })) (cond m (a_cycle (record { 0 = 1 })) NoCycle)) false
         (λ n. eqb n.0 d.0) ≡ false
     go true m q = ne_eqb (c.0 + 1) d.0 (omega arith)
     go false true q = let x = eqb-true c.0 999999 q in ne_eqb 1 d.0 (omega arith)

@@ -12,15 +12,15 @@ use lib.ListN.{length, drop, get_or, replicate, replicate-append-replicate}
 use lib.Seq.{take_at}
 use borrow.Author.Tests.{leb-true, eqb-true, ltb-true, ltb-false, le-leb, le-ltb, eq-eqb}
 use Rattle.text.proofs.Laws.{and_left, and_right}
-use Rattle.calendar.specs.declared.Date.TheVariants.{Day as aDay}
+use Rattle.calendar.specs.declared.Date.TheVariants.{Day as a_day}
 use Rattle.calendar.specs.Calendar.{is_before}
 use Rattle.layout.specs.declared.frame.Header.{Header}
 use Rattle.layout.specs.declared.frame.Opened.{Opened}
-use Rattle.layout.specs.declared.frame.Opened.TheVariants.{Header as aHeader, Wrong}
+use Rattle.layout.specs.declared.frame.Opened.TheVariants.{Header as a_header, Wrong}
 use Rattle.layout.specs.Tables.{header_table, trailer_table, data_record, start_of, function, source}
-use Rattle.layout.specs.declared.frame.Closed.TheVariants.{Trailer as aTrailer}
+use Rattle.layout.specs.declared.frame.Closed.TheVariants.{Trailer as a_trailer}
 use Rattle.layout.specs.declared.counter.Cycle.{Cycle}
-use Rattle.layout.specs.declared.counter.Turn.TheVariants.{Cycle as aCycle, NoCycle}
+use Rattle.layout.specs.declared.counter.Turn.TheVariants.{Cycle as a_cycle, NoCycle}
 use Rattle.layout.specs.Counters.{given_cycle, on_cycle, is_next_of}
 use Rattle.layout.specs.Fields.{function_of, for_load}
 use Rattle.layout.specs.Frames.{header_of, on_header, trailer_of}
@@ -57,7 +57,7 @@ pub record Written (v : Version) (R date company : List ℕ) (c room : ℕ) : Ty
   pub six : length date ≡ 6
   pub fifty : length company ≡ 50
   pub opening : Header
-  pub opens : header_of (header_table (shape_of (Data v)).frame) (header_for v date company c) ≡ aHeader opening
+  pub opens : header_of (header_table (shape_of (Data v)).frame) (header_for v date company c) ≡ a_header opening
   pub early : (i : ℕ) → live_at R i → is_before opening.day (slot_day (slot_at R i)) ≡ false
   pub narrow : (i : ℕ) → live_at R i → fits_in v (record_of (slot_at R i)) ≡ true
   pub fits : load_size v R ≤ room
@@ -73,16 +73,16 @@ not_refused v R date company c out e = go (eqb (load_refusal v R date company c 
     go false q = rw q at e
 
 -- a header that is there has date and name of the right lengths
-header_there : (v : Version) (date company : List ℕ) (c : ℕ) (h : Header) → load_header v date company c ≡ aHeader h
+header_there : (v : Version) (date company : List ℕ) (c : ℕ) (h : Header) → load_header v date company c ≡ a_header h
     → (length date ≡ 6)
-    × ((length company ≡ 50) × (header_of (header_table (shape_of (Data v)).frame) (header_for v date company c) ≡ aHeader h))
+    × ((length company ≡ 50) × (header_of (header_table (shape_of (Data v)).frame) (header_for v date company c) ≡ a_header h))
 unfolding load_header
 header_there v date company c h e = go (eqb (length date) 6) refl (eqb (length company) 50) refl e
   where
     go : (x : Bool) → eqb (length date) 6 ≡ x → (y : Bool) → eqb (length company) 50 ≡ y
-        → cond (x && y) (header_of (header_table (shape_of (Data v)).frame) (header_for v date company c)) Wrong ≡ aHeader h
+        → cond (x && y) (header_of (header_table (shape_of (Data v)).frame) (header_for v date company c)) Wrong ≡ a_header h
         → (length date ≡ 6)
-        × ((length company ≡ 50) × (header_of (header_table (shape_of (Data v)).frame) (header_for v date company c) ≡ aHeader h))
+        × ((length company ≡ 50) × (header_of (header_table (shape_of (Data v)).frame) (header_for v date company c) ≡ a_header h))
     go true p true q e = (eqb-true (length date) 6 p, (eqb-true (length company) 50 q, e))
     go true p false q e = let z : ◌≡◌ {A = ℕ} 0 1 = cc in absurd (omega arith)
     go false p y q e = let z : ◌≡◌ {A = ℕ} 0 1 = cc in absurd (omega arith)
@@ -97,7 +97,7 @@ written_is v R date company c room e = go (register_sound R) refl (load_header v
     room_there true q z = leb-true (load_size v R) room q
     room_there false q z = absurd (omega arith)
 
-    found : (h : Header) → register_sound R ≡ true → load_header v date company c ≡ aHeader h
+    found : (h : Header) → register_sound R ≡ true → load_header v date company c ≡ a_header h
         → (o : Found) → find (later_at h.day R) (slots R) ≡ o
         → (w : Found) → find (wide_at v R) (slots R) ≡ w
         → ◌≡◌ {A = ℕ} (on_found o (on_found w (cond (leb (load_size v R) room) 0 25) (λ i. 27)) (λ i. 26)) 0 → Written v R date company c room
@@ -127,7 +127,7 @@ written_is v R date company c room e = go (register_sound R) refl (load_header v
         → Written v R date company c room
     go false s o q e = absurd (omega arith)
     go true s Wrong q e = absurd (omega arith)
-    go true s (aHeader h) q e = found h s q (find (later_at h.day R) (slots R)) refl (find (wide_at v R) (slots R)) refl e
+    go true s (a_header h) q e = found h s q (find (later_at h.day R) (slots R)) refl (find (wide_at v R) (slots R)) refl e
 
 -- the bytes written are the file
 file_is : (v : Version) (R date company : List ℕ) (c : ℕ) (out : List ℕ) → load_refusal v R date company c (length out) ≡ 0
@@ -164,7 +164,7 @@ back_is s k e =
     let q : record_of (copy_of r) ≡ for_load r = record_slot 1 (day_in r) (for_load r) w in
     record {
       state = state_slot 1 (day_in r) (for_load r);
-      dated = e.dated ∙ ap aDay (sym d);
+      dated = e.dated ∙ ap a_day (sym d);
       day = λ h. d ∙ e.same h;
       coded = ap (λ x. get_or x (start_of data_record function) 0) q ∙ function_load r k;
       marked = ap (λ x. get_or x (start_of data_record source) 0) q ∙ source_load r k;
@@ -176,7 +176,7 @@ next_range : (last c : ℕ) → is_next_of (given_cycle last) (given_cycle c) �
 next_range last c e = go (ltb last 999999) refl (eqb last 999999) e
   where
     go : (x : Bool) → ltb last 999999 ≡ x → (y : Bool)
-        → on_cycle (cond x (aCycle (given_cycle (last + 1))) (cond y (aCycle (given_cycle 1)) NoCycle)) false (λ t. eqb t.0 c)
+        → on_cycle (cond x (a_cycle (given_cycle (last + 1))) (cond y (a_cycle (given_cycle 1)) NoCycle)) false (λ t. eqb t.0 c)
         ≡ true
         → (1 ≤ c) × (c ≤ 999999)
     go true p y e =
@@ -285,7 +285,7 @@ module _ (v : Version) (R G date company : List ℕ) (c : ℕ) (out answers : Li
 
   -- the trailer has the count of its lines
   closes : trailer_of (trailer_table (shape_of (Data v)).frame) (header_for v date company c) (trailer_for v date company (entries_in R))
-      ≡ aTrailer (record { 0 = entries_in R })
+      ≡ a_trailer (record { 0 = entries_in R })
   unfolding header_for trailer_for
   closes = trailer_read v date company w.six w.fifty c (entries_in R) h (omega (arith, t.enough, t.few)) w.opens
 

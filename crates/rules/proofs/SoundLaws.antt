@@ -33,28 +33,28 @@ pub no_fault : (a b : ℕ) → a ≡ 0 → b ≡ 0 → or_else a b ≡ 0
 no_fault a b p q = rw p q
 
 -- the fault of field k of a table
-abbrev pub fault_at_lem : Bool → List ℕ → ℕ → List ℕ → ℕ
-fault_at_lem lax s zero (at ∷ n ∷ r ∷ t) = fault_by at n r lax s (part (from_zero at) n s)
-fault_at_lem lax s zero [] = 0
-fault_at_lem lax s zero (x ∷ []) = 0
-fault_at_lem lax s zero (x ∷ y ∷ []) = 0
-fault_at_lem lax s (suc k) (at ∷ n ∷ r ∷ t) = fault_at_lem lax s k t
-fault_at_lem lax s (suc k) [] = 0
-fault_at_lem lax s (suc k) (x ∷ []) = 0
-fault_at_lem lax s (suc k) (x ∷ y ∷ []) = 0
+abbrev pub fault_at : Bool → List ℕ → ℕ → List ℕ → ℕ
+fault_at lax s zero (at ∷ n ∷ r ∷ t) = fault_by at n r lax s (part (from_zero at) n s)
+fault_at lax s zero [] = 0
+fault_at lax s zero (x ∷ []) = 0
+fault_at lax s zero (x ∷ y ∷ []) = 0
+fault_at lax s (suc k) (at ∷ n ∷ r ∷ t) = fault_at lax s k t
+fault_at lax s (suc k) [] = 0
+fault_at lax s (suc k) (x ∷ []) = 0
+fault_at lax s (suc k) (x ∷ y ∷ []) = 0
 
 -- in a line of good form no field has one
-pub fault_at : (lax : Bool) (s : List ℕ) (k : ℕ) (t : List ℕ) → fault_in lax s t ≡ 0 → fault_at_lem lax s k t ≡ 0
+pub fault_at_lem : (lax : Bool) (s : List ℕ) (k : ℕ) (t : List ℕ) → fault_in lax s t ≡ 0 → fault_at lax s k t ≡ 0
 unfolding fault_in
-fault_at lax s zero (at ∷ n ∷ r ∷ t) e = (fault_both (fault_by at n r lax s (part (from_zero at) n s)) (fault_in lax s t) e).0
-fault_at lax s zero [] e = refl
-fault_at lax s zero (x ∷ []) e = refl
-fault_at lax s zero (x ∷ y ∷ []) e = refl
-fault_at lax s (suc k) (at ∷ n ∷ r ∷ t) e =
-    fault_at lax s k t (fault_both (fault_by at n r lax s (part (from_zero at) n s)) (fault_in lax s t) e).1
-fault_at lax s (suc k) [] e = refl
-fault_at lax s (suc k) (x ∷ []) e = refl
-fault_at lax s (suc k) (x ∷ y ∷ []) e = refl
+fault_at_lem lax s zero (at ∷ n ∷ r ∷ t) e = (fault_both (fault_by at n r lax s (part (from_zero at) n s)) (fault_in lax s t) e).0
+fault_at_lem lax s zero [] e = refl
+fault_at_lem lax s zero (x ∷ []) e = refl
+fault_at_lem lax s zero (x ∷ y ∷ []) e = refl
+fault_at_lem lax s (suc k) (at ∷ n ∷ r ∷ t) e =
+    fault_at_lem lax s k t (fault_both (fault_by at n r lax s (part (from_zero at) n s)) (fault_in lax s t) e).1
+fault_at_lem lax s (suc k) [] e = refl
+fault_at_lem lax s (suc k) (x ∷ []) e = refl
+fault_at_lem lax s (suc k) (x ∷ y ∷ []) e = refl
 
 -- ---- two lines, field by field
 
@@ -103,7 +103,7 @@ record GoodEsn (f : List ℕ) : Type 0 where
 -- a row of good form has such an ESN
 good_esn : (g : List ℕ) → row_fault guide_row g ≡ 0 → GoodEsn (row_esn_of g)
 unfolding row_fault row_esn_of fault_by keeps keeps_other
-good_esn g e = go (is_whole esn_size (row_esn_of g)) refl (runs_of Digit 1 5 (row_esn_of g)) refl (fault_at false g row_esn guide_row e)
+good_esn g e = go (is_whole esn_size (row_esn_of g)) refl (runs_of Digit 1 5 (row_esn_of g)) refl (fault_at_lem false g row_esn guide_row e)
   where
     go : (a : Bool) → is_whole esn_size (row_esn_of g) ≡ a → (b : Bool) → runs_of Digit 1 5 (row_esn_of g) ≡ b
         → cond a (cond b 0 (start_of guide_row row_esn + 1)) (start_of guide_row row_esn + 1) ≡ 0 → GoodEsn (row_esn_of g)

@@ -14,7 +14,7 @@ use Rattle.text.specs.Text.{part}
 use Rattle.text.proofs.Laws.{and_left, and_right, and_false, same_refl}
 use Rattle.calendar.specs.declared.Day.{Day}
 use Rattle.calendar.specs.declared.Date.{Date}
-use Rattle.calendar.specs.declared.Date.TheVariants.{Day as aDay, NoDate}
+use Rattle.calendar.specs.declared.Date.TheVariants.{Day as a_day, NoDate}
 use Rattle.calendar.specs.Calendar.{on_day, is_before, on_calendar, no_later}
 use Rattle.layout.specs.declared.frame.Header.{Header}
 use Rattle.layout.specs.Tables.{data_record}
@@ -52,7 +52,7 @@ pub record Entry (s : List ℕ) : Type 0 where
   pub good : record_fault data_record (record_of s) ≡ 0
   pub strict : is_lax (function_of (record_of s)) ≡ false
   pub zoned : has_esn (record_of s) ≡ true
-  pub dated : date_of (record_of s) ≡ aDay (day_in (record_of s))
+  pub dated : date_of (record_of s) ≡ a_day (day_in (record_of s))
   pub small : (day_in (record_of s)).0 ≤ 36524
   pub early : is_before (slot_day s) (day_in (record_of s)) ≡ false
   pub same : is_held (state_of s) ≡ true → day_in (record_of s) ≡ slot_day s
@@ -99,7 +99,7 @@ entry_is R e i u =
     go : (s : List ℕ) → Used s → (x : Date) → date_of (record_of s) ≡ x
         → on_day x false (λ d. day_fits (state_of s) (slot_day s) d) ≡ true → no_later (date_of (record_of s)) ≡ true → Entry s
     go s v NoDate q d l = clash-bool d refl
-    go s v (aDay x) q d l =
+    go s v (a_day x) q d l =
         let a = eqb (record_fault data_record (record_of s)) 0 in
         let b = is_entry_code (function_of (record_of s)) in
         let c = has_esn (record_of s) in
@@ -109,7 +109,7 @@ entry_is R e i u =
           good = eqb-true (record_fault data_record (record_of s)) 0 (and_left a (b && c) v.fits);
           strict = not_lax (function_of (record_of s)) (and_left b c w);
           zoned = and_right b c w;
-          dated = q ∙ ap aDay (sym z);
+          dated = q ∙ ap a_day (sym z);
           small = rw q (leb-true x.0 36524 (rw q at l));
           early = rw q (day_early (state_of s) (slot_day s) x d);
           same = λ h. z ∙ day_held (state_of s) (slot_day s) x d h;
@@ -118,7 +118,7 @@ entry_is R e i u =
 -- ---- an insert that is taken
 
 -- a record of 512 bytes with code I and a date
-filed_load : (r : List ℕ) → Whole r → date_of r ≡ aDay (day_in r) → filed_of (for_load r) ≡ Record Insert (day_in r)
+filed_load : (r : List ℕ) → Whole r → date_of r ≡ a_day (day_in r) → filed_of (for_load r) ≡ Record Insert (day_in r)
 unfolding filed_of
 filed_load r w d = rw (whole_load r w, date_load r w, d, function_load r w)
 

@@ -10,8 +10,8 @@ use Rattle.calendar.specs.declared.Day.{Day}
 use Rattle.layout.specs.declared.counter.Cycle.{Cycle}
 use Rattle.layout.specs.declared.counter.Count.{Count}
 use Rattle.layout.specs.declared.frame.Header.{Header}
-use Rattle.layout.specs.declared.frame.Opened.TheVariants.{Header as aHeader}
-use Rattle.layout.specs.declared.frame.Closed.TheVariants.{Trailer as aTrailer}
+use Rattle.layout.specs.declared.frame.Opened.TheVariants.{Header as a_header}
+use Rattle.layout.specs.declared.frame.Closed.TheVariants.{Trailer as a_trailer}
 use Rattle.layout.specs.Tables.{header_table, trailer_table}
 use Rattle.layout.specs.Counters.{given_cycle, is_next_of, is_count}
 use Rattle.layout.specs.Fields.{number_of}
@@ -77,10 +77,10 @@ pub record NoneHits (k : Kind) (s : Stores) (f : List ℕ) (room : ℕ) (last : 
   pub guide : guide_sound s.guide ≡ true
   pub long : good_file k f ≡ true
   pub fits : lines_in k f ≤ room
-  pub head : header_of (header_table (shape_of k).frame) (header_line k f) ≡ aHeader h
+  pub head : header_of (header_table (shape_of k).frame) (header_line k f) ≡ a_header h
   pub next : is_next_of last h.cycle ≡ true
   pub count : Count
-  pub tail : trailer_of (trailer_table (shape_of k).frame) (header_line k f) (trailer_line k f) ≡ aTrailer count
+  pub tail : trailer_of (trailer_table (shape_of k).frame) (header_line k f) (trailer_line k f) ≡ a_trailer count
   pub counted : is_count count (lines_in k f) ≡ true
   pub lines : (i : ℕ) → i < lines_in k f → line_fault k (line_at k f i) ≡ 0
 

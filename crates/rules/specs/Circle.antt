@@ -4,7 +4,7 @@
 -- empty stores the register and its own guide are fit for it.
 -- Assumes nothing.
 use Rattle.std.specs.Prelude.{ℕ, ◌*◌, ◌≤◌, ◌<◌, ◌≡◌, ◌≢◌, List, ◌++◌, true, length, take, drop, get_or, replicate}
-use Rattle.calendar.specs.declared.Date.TheVariants.{Day as aDay}
+use Rattle.calendar.specs.declared.Date.TheVariants.{Day as a_day}
 use Rattle.layout.specs.Tables.{data_record, start_of, function, source}
 use Rattle.layout.specs.Counters.{given_cycle, is_next_of}
 use Rattle.layout.specs.Fields.{number_of, esn_of, row_esn_of, date_of}
@@ -60,7 +60,7 @@ trip_of v R G date company c out answers last n =
 -- the entry s is back in the slot b: held, under the date in its record, every byte of the record but for its Function and Source
 pub record Back (s b : List ℕ) : Type 0 where
   pub state : state_of b ≡ 1
-  pub dated : date_of (record_of s) ≡ aDay (slot_day b)
+  pub dated : date_of (record_of s) ≡ a_day (slot_day b)
   pub day : is_held (state_of s) ≡ true → slot_day b ≡ slot_day s
   pub coded : get_or (record_of b) (start_of data_record function) 0 ≡ 73
   pub marked : get_or (record_of b) (start_of data_record source) 0 ≡ 67

@@ -6,7 +6,7 @@
 use Rattle.std.specs.Prelude.{ℕ, zero, suc, ◌+◌, ◌<◌, ◌≡◌, ◌≢◌, List, [], ◌∷◌, Bool, true, false, ◌&&◌, cond, length}
 use Rattle.text.specs.Text.{part, member_of}
 use Rattle.calendar.specs.declared.Day.{Day}
-use Rattle.calendar.specs.declared.Date.TheVariants.{Day as aDay}
+use Rattle.calendar.specs.declared.Date.TheVariants.{Day as a_day}
 use Rattle.calendar.specs.declared.Reading.TheVariants.{Former}
 use Rattle.calendar.specs.Calendar.{on_day, is_before, is_past}
 use Rattle.calendar.specs.Former.{anew}
@@ -116,11 +116,11 @@ HeldOnce =
 
 unfoldable pub OrderStays : Type 0
 OrderStays =
-    (d e x y : Day) → anew d ≡ aDay x → anew e ≡ aDay y → is_before x y ≡ is_before d e
+    (d e x y : Day) → anew d ≡ a_day x → anew e ≡ a_day y → is_before x y ≡ is_before d e
 
 unfoldable pub DistanceStays : Type 0
 DistanceStays =
-    (d e x y : Day) (n : ℕ) → anew d ≡ aDay x → anew e ≡ aDay y → is_past x n y ≡ is_past d n e
+    (d e x y : Day) (n : ℕ) → anew d ≡ a_day x → anew e ≡ a_day y → is_past x n y ≡ is_past d n e
 
 -- ---- "Show that the promise admits one outcome"
 

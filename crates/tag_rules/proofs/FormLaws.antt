@@ -111,32 +111,32 @@ either true b e = inl refl
 either false b e = inr e
 
 module _ (form n : ℕ) where
-  abbrev isTen : Bool
-  isTen = eqb form ten && eqb n 10
+  abbrev ten_fits : Bool
+  ten_fits = eqb form ten && eqb n 10
 
   abbrev is_date : Bool
   is_date = eqb form calendar_date && eqb n 6
 
-  abbrev isPostal : Bool
-  isPostal = eqb form postal && eqb n 9
+  abbrev postal_fits : Bool
+  postal_fits = eqb form postal && eqb n 9
 
-  three : (is_date ≡ true) ⊎ (isPostal ≡ true) → Shape form n
+  three : (is_date ≡ true) ⊎ (postal_fits ≡ true) → Shape form n
   three (inl e) =
       is_date_lem (eqb-true form calendar_date (and_left (eqb form calendar_date) (eqb n 6) e))
       (eqb-true n 6 (and_right (eqb form calendar_date) (eqb n 6) e))
   three (inr e) =
       is_postal (eqb-true form postal (and_left (eqb form postal) (eqb n 9) e)) (eqb-true n 9 (and_right (eqb form postal) (eqb n 9) e))
 
-  two : (isTen ≡ true) ⊎ ((is_date || isPostal) ≡ true) → Shape form n
+  two : (ten_fits ≡ true) ⊎ ((is_date || postal_fits) ≡ true) → Shape form n
   two (inl e) = is_ten (eqb-true form ten (and_left (eqb form ten) (eqb n 10) e)) (eqb-true n 10 (and_right (eqb form ten) (eqb n 10) e))
-  two (inr e) = three (either is_date isPostal e)
+  two (inr e) = three (either is_date postal_fits e)
 
-  one : (eqb form plain ≡ true) ⊎ ((isTen || (is_date || isPostal)) ≡ true) → Shape form n
+  one : (eqb form plain ≡ true) ⊎ ((ten_fits || (is_date || postal_fits)) ≡ true) → Shape form n
   one (inl e) = is_plain (eqb-true form plain e)
-  one (inr e) = two (either isTen (is_date || isPostal) e)
+  one (inr e) = two (either ten_fits (is_date || postal_fits) e)
 
   pub shape_of : shaped form n ≡ true → Shape form n
-  shape_of s = one (either (eqb form plain) (isTen || (is_date || isPostal)) s)
+  shape_of s = one (either (eqb form plain) (ten_fits || (is_date || postal_fits)) s)
 
 -- each row of the table has its shape
 pub all_shaped : every (λ k. shaped (form_at k) (span_size k)) 28 ≡ true

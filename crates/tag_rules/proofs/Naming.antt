@@ -24,7 +24,7 @@ use Rattle.tag_rules.specs.Promises.{text_of, AllUnbarred, Named, NamesPair}
 use Rattle.tag_rules.proofs.PairLaws.{parted_one}
 use Rattle.tag_rules.proofs.DraftLaws.{Tag, unknown, known, tag_is, took_unknown, took_known}
 use Rattle.tag_rules.proofs.BackLaws.{zeros}
-use Rattle.tag_rules.proofs.Orders.{parted_all_lem, text_framed, text_draft, refusal_table, refusal_by, read_is}
+use Rattle.tag_rules.proofs.Orders.{parted_all, text_framed, text_draft, refusal_table, refusal_by, read_is}
 use Rattle.tag_rules.proofs.TextAnswers.{refusal_is, or_first}
 
 -- ---- the pair at which something was noted first
@@ -83,7 +83,7 @@ noted_unfit p w n e = go (tag_is p)
 -- ---- the text of a pair alone, and of all
 
 -- pairs without `|` are the parts of their text
-parted_same : (ps : List (List ℕ)) → AllUnbarred ps → parted_all_lem ps ≡ ps
+parted_same : (ps : List (List ℕ)) → AllUnbarred ps → parted_all ps ≡ ps
 parted_same [] a = refl
 parted_same (p ∷ ps) a = rw (parted_one p a.0, parted_same ps a.1) refl
 

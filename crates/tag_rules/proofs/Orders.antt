@@ -36,9 +36,9 @@ abbrev behind : List (List ℕ) → List ℕ
 behind [] = []
 behind (p ∷ ps) = 124 ∷ (p ++ behind ps)
 
-abbrev pub parted_all_lem : List (List ℕ) → List (List ℕ)
-parted_all_lem [] = []
-parted_all_lem (p ∷ ps) = parted p ++ parted_all_lem ps
+abbrev pub parted_all : List (List ℕ) → List (List ℕ)
+parted_all [] = []
+parted_all (p ∷ ps) = parted p ++ parted_all ps
 
 joined_is : (ps : List (List ℕ)) → joined ps ≡ behind ps ++ (10 ∷ [])
 joined_is [] = refl
@@ -49,20 +49,20 @@ begins : (ps : List (List ℕ)) → (behind ps ≡ []) ⊎ ((t : List ℕ) × (b
 begins [] = inl refl
 begins (p ∷ ps) = inr (p ++ behind ps, refl)
 
-pairs_are : (ps : List (List ℕ)) → pairs_of (behind ps) ≡ parted_all_lem ps
+pairs_are : (ps : List (List ℕ)) → pairs_of (behind ps) ≡ parted_all ps
 pairs_are [] = refl
 pairs_are (p ∷ []) = ap parted (append-nil p) ∙ sym (append-nil (parted p))
 pairs_are (p ∷ q ∷ ps) = parted_append p (q ++ behind ps) ∙ ap (λ (x : List (List ℕ)). parted p ++ x) (pairs_are (q ∷ ps))
 
-parted_all : (ps qs : List (List ℕ)) → parted_all_lem (ps ++ qs) ≡ parted_all_lem ps ++ parted_all_lem qs
-parted_all [] qs = refl
-parted_all (p ∷ ps) qs =
-    ap (λ (x : List (List ℕ)). parted p ++ x) (parted_all ps qs) ∙ sym (append_assoc (parted p) (parted_all_lem ps) (parted_all_lem qs))
+parted_all_lem : (ps qs : List (List ℕ)) → parted_all (ps ++ qs) ≡ parted_all ps ++ parted_all qs
+parted_all_lem [] qs = refl
+parted_all_lem (p ∷ ps) qs =
+    ap (λ (x : List (List ℕ)). parted p ++ x) (parted_all_lem ps qs) ∙ sym (append_assoc (parted p) (parted_all ps) (parted_all qs))
 
 pub text_framed : (ps : List (List ℕ)) → is_framed (text_of ps) ≡ true
 text_framed ps = ap (λ (x : List ℕ). is_framed (68 ∷ 65 ∷ 84 ∷ x)) (joined_is ps) ∙ framed (behind ps) (begins ps)
 
-pub text_draft : (ps : List (List ℕ)) → draft_of (text_of ps) ≡ all_taken (parted_all_lem ps) blank_draft
+pub text_draft : (ps : List (List ℕ)) → draft_of (text_of ps) ≡ all_taken (parted_all ps) blank_draft
 unfolding draft_of
 text_draft ps =
     ap (λ (x : List ℕ). all_taken (pairs_of (body_of (68 ∷ 65 ∷ 84 ∷ x))) blank_draft) (joined_is ps)
@@ -260,14 +260,14 @@ told_alike v w out a = rw a.notes (go a.line)
 
 -- two pairs without `|` among the others
 two_drafted : (ps qs : List (List ℕ)) (p q : List ℕ) → all_in Unbarred p ≡ true → all_in Unbarred q ≡ true
-    → draft_of (text_of (ps ++ (p ∷ q ∷ qs))) ≡ all_taken (parted_all_lem qs) (pair_taken q (pair_taken p (all_taken (parted_all_lem ps) blank_draft)))
+    → draft_of (text_of (ps ++ (p ∷ q ∷ qs))) ≡ all_taken (parted_all qs) (pair_taken q (pair_taken p (all_taken (parted_all ps) blank_draft)))
 unfolding all_taken
 two_drafted ps qs p q a b =
-    let pair : parted p ++ (parted q ++ parted_all_lem qs) ≡ p ∷ q ∷ parted_all_lem qs = rw (parted_one p a, parted_one q b) refl in
+    let pair : parted p ++ (parted q ++ parted_all qs) ≡ p ∷ q ∷ parted_all qs = rw (parted_one p a, parted_one q b) refl in
     text_draft (ps ++ (p ∷ q ∷ qs))
-    ∙ ap (λ (x : List (List ℕ)). all_taken x blank_draft) (parted_all ps (p ∷ q ∷ qs))
-    ∙ taken_append (parted_all_lem ps) (parted p ++ (parted q ++ parted_all_lem qs)) blank_draft
-    ∙ ap (λ (x : List (List ℕ)). all_taken x (all_taken (parted_all_lem ps) blank_draft)) pair
+    ∙ ap (λ (x : List (List ℕ)). all_taken x blank_draft) (parted_all_lem ps (p ∷ q ∷ qs))
+    ∙ taken_append (parted_all ps) (parted p ++ (parted q ++ parted_all qs)) blank_draft
+    ∙ ap (λ (x : List (List ℕ)). all_taken x (all_taken (parted_all ps) blank_draft)) pair
 
 pub any_order : AnyOrder
 unfolding AnyOrder
@@ -277,10 +277,10 @@ any_order ps qs p q out a b =
     ∙ sym (read_is (text_of (ps ++ (q ∷ p ∷ qs))) out (text_framed (ps ++ (q ∷ p ∷ qs))))
   where
     before : Draft
-    before = all_taken (parted_all_lem ps) blank_draft
+    before = all_taken (parted_all ps) blank_draft
 
     alike : Alike (draft_of (text_of (ps ++ (p ∷ q ∷ qs)))) (draft_of (text_of (ps ++ (q ∷ p ∷ qs))))
     alike =
         rw (two_drafted ps qs p q a b, two_drafted ps qs q p b a)
-        (alike_all (parted_all_lem qs) (pair_taken q (pair_taken p before)) (pair_taken p (pair_taken q before))
-        (swapped p q before (sized_all (parted_all_lem ps) blank_draft sized_blank)))
+        (alike_all (parted_all qs) (pair_taken q (pair_taken p before)) (pair_taken p (pair_taken q before))
+        (swapped p q before (sized_all (parted_all ps) blank_draft sized_blank)))

@@ -22,7 +22,7 @@ use Rattle.layout.specs.Fields.{function_of}
 use Rattle.rules.specs.Walks.{find, first, is_nothing}
 use Rattle.rules.proofs.WalkLaws.{find_none, is_nothing_lem, AllFail, positive, first_zero}
 use Rattle.rules.proofs.PlaceLaws.{part_length}
-use Rattle.rules.proofs.SoundLaws.{fault_at}
+use Rattle.rules.proofs.SoundLaws.{fault_at_lem}
 use Rattle.tag_rules.specs.Tags.{label_at, span_at, span_size, form_at, span_of}
 use Rattle.tag_rules.specs.Forms.{formed, worded}
 use Rattle.tag_rules.specs.Reading.{is_framed, body_of, pairs_of, Draft, all_taken, blank_line, blank_draft, draft_of, read_refusal, text_read}
@@ -37,7 +37,7 @@ use Rattle.tag_rules.proofs.BackLaws.{Upto, upto}
 -- a record of good form ends in `*`
 star_is : (r : List ℕ) → record_fault data_record r ≡ 0 → span_of 31 r ≡ 42 ∷ []
 unfolding record_fault fault_by is_whole keeps keeps_other
-star_is r e = go (part 511 1 r) (rw (length-take 1 (drop 511 r)) (omega arith)) (fault_at (is_lax (function_of r)) r record_star data_record e)
+star_is r e = go (part 511 1 r) (rw (length-take 1 (drop 511 r)) (omega arith)) (fault_at_lem (is_lax (function_of r)) r record_star data_record e)
   where
     go : (f : List ℕ) → length f ≤ 1 → fault_by 512 1 star (is_lax (function_of r)) r f ≡ 0 → f ≡ 42 ∷ []
     go [] h q = absurd (omega arith)

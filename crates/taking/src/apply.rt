@@ -10,8 +10,8 @@ use versions::Version;
 
 // A record, applied as one of Version 2: a record of Version 1 is widened first, into the only copy that is made of it.
 fn apply_line(version: Version, register: &mut [u8], guide: &[u8], h: Header, line: &[u8]) -> u8
-    ensures { (result ≡ (line_applied (Data version) h line.now (record { register = register.entry.now; guide = guide.now })).answer)
-        × (register.exit.now ≡ (line_applied (Data version) h line.now (record { register = register.entry.now; guide = guide.now })).stores.register) }
+    ensures { (result ≡ (line_applied (Data version) h line.now (record { register = register.old; guide = guide.now })).answer)
+        × (register.new ≡ (line_applied (Data version) h line.now (record { register = register.old; guide = guide.now })).stores.register) }
 {
     match version {
         Version::One => {
@@ -33,9 +33,9 @@ pub fn apply_records(
     n: usize,
 ) -> u32
     requires { (n ≤ 9999) × (n ≤ length answers.old) }
-    ensures { (result ≤ n) × ((result ≡ zeros_in (answers_to (Data version) h file.now (record { register = register.entry.now; guide = guide.now }) n))
-        × ((register.exit.now ≡ (after (Data version) h file.now (record { register = register.entry.now; guide = guide.now }) n).register)
-        × (answers.new ≡ answers_to (Data version) h file.now (record { register = register.entry.now; guide = guide.now }) n ++ drop n answers.old))) }
+    ensures { (result ≤ n) × ((result ≡ zeros_in (answers_to (Data version) h file.now (record { register = register.old; guide = guide.now }) n))
+        × ((register.new ≡ (after (Data version) h file.now (record { register = register.old; guide = guide.now }) n).register)
+        × (answers.new ≡ answers_to (Data version) h file.now (record { register = register.old; guide = guide.now }) n ++ drop n answers.old))) }
 {
     let mut done: u32 = 0;
     let mut i: usize = 0;
@@ -66,9 +66,9 @@ pub fn apply_rows(
     n: usize,
 ) -> u32
     requires { (n ≤ 9999) × (n ≤ length answers.old) }
-    ensures { (result ≤ n) × ((result ≡ zeros_in (answers_to Guide h file.now (record { register = register.entry.now; guide = guide.old }) n))
-        × ((guide.new ≡ (after Guide h file.now (record { register = register.entry.now; guide = guide.old }) n).guide)
-        × (answers.new ≡ answers_to Guide h file.now (record { register = register.entry.now; guide = guide.old }) n ++ drop n answers.old))) }
+    ensures { (result ≤ n) × ((result ≡ zeros_in (answers_to Guide h file.now (record { register = register.now; guide = guide.old }) n))
+        × ((guide.new ≡ (after Guide h file.now (record { register = register.now; guide = guide.old }) n).guide)
+        × (answers.new ≡ answers_to Guide h file.now (record { register = register.now; guide = guide.old }) n ++ drop n answers.old))) }
 {
     let mut done: u32 = 0;
     let mut i: usize = 0;

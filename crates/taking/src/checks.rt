@@ -172,7 +172,7 @@ pub fn check_file(
     room: usize,
     last: Cycle,
 ) -> Checked
-    ensures { result ≡ checked kind (record { register = register.entry.now; guide = guide.now }) file.now room last }
+    ensures { result ≡ checked kind (record { register = register.now; guide = guide.now }) file.now room last }
 {
     if sound::is_register_sound(register) {
         if sound::is_guide_sound(guide) {

@@ -34,17 +34,17 @@ all_to_lem p (suc n) k h l = go (λ m. all_to_lem p n k (and_left (all_to p n) (
     go ih (no m) = let e : k ≡ n = omega arith in rw e (and_right (all_to p n) (p n) h)
 
 -- the numbers of n fields from field j on in a row, as the code has them; number k of all fields is that of field k
-abbrev pub in_row_lem : (ℕ → ℕ) → ℕ → ℕ → List ℕ
-in_row_lem f zero j = []
-in_row_lem f (suc n) j = f j ∷ in_row_lem f n (suc j)
+abbrev pub in_row : (ℕ → ℕ) → ℕ → ℕ → List ℕ
+in_row f zero j = []
+in_row f (suc n) j = f j ∷ in_row f n (suc j)
 
-in_row : (f : ℕ → ℕ) (n j k : ℕ) → k < n → get_or (in_row_lem f n j) k 0 ≡ f (j + k)
-in_row f zero j k l = absurd (omega arith)
-in_row f (suc n) j zero l = let e : j ≡ j + 0 = omega arith in ap f e
-in_row f (suc n) j (suc k) l = let e : suc j + k ≡ j + suc k = omega arith in in_row f n (suc j) k (omega arith) ∙ ap f e
+in_row_lem : (f : ℕ → ℕ) (n j k : ℕ) → k < n → get_or (in_row f n j) k 0 ≡ f (j + k)
+in_row_lem f zero j k l = absurd (omega arith)
+in_row_lem f (suc n) j zero l = let e : j ≡ j + 0 = omega arith in ap f e
+in_row_lem f (suc n) j (suc k) l = let e : suc j + k ≡ j + suc k = omega arith in in_row_lem f n (suc j) k (omega arith) ∙ ap f e
 
-pub number_at : (f : ℕ → ℕ) (k : ℕ) → k < fields → get_or (in_row_lem f fields 0) k 0 ≡ f k
-number_at f k l = let e : 0 + k ≡ k = omega arith in in_row f fields 0 k l ∙ ap f e
+pub number_at : (f : ℕ → ℕ) (k : ℕ) → k < fields → get_or (in_row f fields 0) k 0 ≡ f k
+number_at f k l = let e : 0 + k ≡ k = omega arith in in_row_lem f fields 0 k l ∙ ap f e
 
 -- field k starts where those before it end
 starts : (t : List ℕ) → all_to (begins t) fields ≡ true → (k : ℕ) → k < fields → start_of t k ≡ end_of t k

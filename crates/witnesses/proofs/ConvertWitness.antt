@@ -16,7 +16,7 @@ use Rattle.rules.specs.Demands.{File, Office, start, run, StoresKept}
 use Rattle.rules.proofs.Keep.{demand3}
 use Rattle.rules.proofs.KeepSound.{run_sound}
 use Rattle.rules.proofs.ConvertLaws.{convert_answered, convert_keeps, held_once}
-use Rattle.witnesses.proofs.Witness.{opening, closing, line, guide_file, files, seen as run-seen}
+use Rattle.witnesses.proofs.Witness.{opening, closing, line, guide_file, files, seen as run_seen}
 
 -- the register of one slot that the run leaves: held, its day 10957, its record of 010100
 abbrev register : List ℕ
@@ -31,7 +31,7 @@ abbrev told : Conversion → List ℕ
 told c = c.result.refusal ∷ c.result.slot ∷ (slot_day (slot_at c.register 0)).0 ∷ []
 
 unfoldable pub seen : List (List ℕ)
-unfolding run-seen former_of restated unsound_by register_sound_by late_at converted_slot converted_to conversion
+unfolding run_seen former_of restated unsound_by register_sound_by late_at converted_slot converted_to conversion
 seen =
     told (conversion (with 1 0))
     ∷ told (conversion (with 3 25567))

@@ -22,7 +22,7 @@ use Rattle.rules.proofs.KeepSound.{run_sound}
 use Rattle.rules.proofs.Overnight.{overnight}
 use Rattle.rules.proofs.Shown.{run_shows}
 use Rattle.rules.proofs.Incident.{incident, holder}
-use Rattle.witnesses.proofs.Witness.{line, row_line, guide_file, data_file, delete_file, files, seen as run-seen}
+use Rattle.witnesses.proofs.Witness.{line, row_line, guide_file, data_file, delete_file, files, seen as run_seen}
 
 -- what the run leaves
 abbrev office : Office
@@ -55,7 +55,7 @@ sound = run_sound 1 1 (omega arith) (omega arith) (omega arith) (omega arith) fi
 
 -- slot 0 has an entry,
 pub live : live_at register 0
-unfolding run-seen
+unfolding run_seen
 live = (let e : slots register ≡ 1 = refl in omega arith, refl)
 
 -- which lies under one row
@@ -70,43 +70,43 @@ is_last = (demand3 1 1 files).history.entries 0 live lies.0 lies.1
 
 -- the number is held, as its last accepted record is a C,
 pub held : InState register number is_held
-unfolding run-seen Exactly last_is last_of newest code_is
+unfolding run_seen Exactly last_is last_of newest code_is
 held = ((demand3 1 1 files).history.held number).1 refl
 
 -- and passed from A to B by U and M;
 pub passed : Passed past (line 73 65) (line 77 66)
-unfolding run-seen OnlyPassed last_stored newest code_is
+unfolding run_seen OnlyPassed last_stored newest code_is
 passed =
     (demand3 1 1 files).history.passing since (line 77 66) past (line 73 65) refl refl refl
     (λ e. let d : 65 ≡ 66 = ap (λ c. get_or c 0 0) e in omega arith)
 
 -- so lookup shows it
 pub shows : Shows office number (seen register number)
-unfolding run-seen AllShown
+unfolding run_seen AllShown
 shows = run_shows files 1 1 (omega arith) (omega arith) number refl
 
 -- ---- last spring's incident
 
 -- one more C of A is turned away,
 pub late_change : TurnedAway register (applied register office.stores.guide head (line 67 65))
-unfolding run-seen Guarded code_is held_by
+unfolding run_seen Guarded code_is held_by
 late_change = incident register office.stores.guide head (line 67 65) refl refl
 
 -- by 16,
 pub late_answer : (applied register office.stores.guide head (line 67 65)).answer ≡ 16
-unfolding run-seen
+unfolding run_seen
 late_answer = refl
 
 -- and since the M of B all that was accepted of the number, and its entry, is B's
 pub since_migrate : Holder office since (line 77 66)
-unfolding run-seen HolderKept code_is EveryOf
+unfolding run_seen HolderKept code_is EveryOf
 since_migrate = holder 1 1 files since (line 77 66) past refl refl (λ e. refl, tt)
 
 -- ---- evening and morning
 
 -- the file of the D is checked good of empty stores; overnight the run's files are taken, a data file of the same cycle among them
 pub morning : Morning (Data Two) office.stores delete_file (1 ∷ []) 0
-unfolding run-seen Overnight
+unfolding run_seen Overnight
 morning = overnight (Data Two) (start 1 1) files delete_file (1 ∷ []) 0 refl
 
 -- what the guide file left, which that data file was taken after
@@ -115,5 +115,5 @@ ruled = run (record { kind = Guide; bytes = guide_file; answers = 1 ∷ []; last
 
 -- so the D is refused by 6 after the last cycle that it returned, 1
 pub overtaken : (taken (Data Two) office.stores delete_file (1 ∷ []) 1).result.refusal ≡ 6
-unfolding run-seen
+unfolding run_seen
 overtaken = morning.overtaken (Data Two) ruled.stores data_file (1 ∷ 1 ∷ 1 ∷ 1 ∷ 1 ∷ []) refl

@@ -16,7 +16,7 @@ use Rattle.rules.specs.Circle.{Trip, Returned, RoundTrip, trip_of}
 use Rattle.rules.proofs.KeepSound.{run_sound}
 use Rattle.rules.proofs.RoundTrip.{round_trip, run_fit}
 use Rattle.witnesses.proofs.Witness.{day, company}
-use Rattle.witnesses.proofs.VersionWitness.{mixed, seen as run-seen}
+use Rattle.witnesses.proofs.VersionWitness.{mixed, seen as run_seen}
 
 -- the stores that the run leaves
 abbrev stores : Stores
@@ -29,7 +29,7 @@ out = replicate 912 0
 -- whether the file is refused, and how many entries it has; what taking it returns; and of the slot that it fills the state, the
 -- Function, the ESN and the first letter of the Company ID
 pub seen : Version → List ℕ
-unfolding run-seen
+unfolding run_seen
 seen v =
     let l = (loaded v stores.register day company 2 out).result in
     let o = trip_of v stores.register stores.guide day company 2 out (1 ∷ []) 1 1 in

@@ -14,7 +14,7 @@ use Rattle.rules.specs.Slots.{slot_at, state_of, record_of}
 use Rattle.rules.specs.Takes.{taken}
 use Rattle.rules.specs.Loads.{Load, loaded}
 use Rattle.rules.specs.Demands.{File, start, run}
-use Rattle.witnesses.proofs.Witness.{day, company, files, numbers, seen as run-seen}
+use Rattle.witnesses.proofs.Witness.{day, company, files, numbers, seen as run_seen}
 
 -- header of cycle n, and trailer of one record, in Version 1
 abbrev opening : ℕ → List ℕ
@@ -47,7 +47,7 @@ written l =
     t.refusal ∷ t.bytes ∷ t.entries ∷ t.slot ∷ []
 
 unfoldable pub seen : List (List ℕ)
-unfolding run-seen widen_to widened narrow_to narrowed tail_blank narrows
+unfolding run_seen widen_to widened narrow_to narrowed tail_blank narrows
 seen =
     let o = run files (start 1 1) in
     let t = taken (Data One) o.stores (narrow_file 67) (1 ∷ []) 1 in

@@ -8,7 +8,7 @@ use Rattle.text.specs.Text.{spaces, spelled, runs_of, put_at, width, among_space
 use Rattle.calendar.specs.Calendar.{day_of}
 use Rattle.layout.specs.Counters.{cycle_of, whole_count, count_of}
 use Rattle.layout.specs.Fields.{function_of, number_of, house_of, street_of, place_of, esn_of, has_esn, date_of, company_of, row_street_of, row_place_of, low_of, high_of, parity_of, allows, row_esn_of, row_function_of, with_esn, for_load}
-use Rattle.layout.specs.Frames.{date_of as frameDateOf, name_of, header_of, same_frame, trailer_of, frame_with, header_with, trailer_with}
+use Rattle.layout.specs.Frames.{date_of as frame_date_of, name_of, header_of, same_frame, trailer_of, frame_with, header_with, trailer_with}
 use Rattle.layout.specs.Rules.{is_direction, is_date, is_cycle, is_tally, keeps_frame, keeps_other, keeps, house_fault, end_fault, high_fault, parity_fault, is_whole, fault_by, fault_in, record_fault, row_fault}
 use Rattle.versions.specs.declared.Version.TheVariants.{Two}
 use Rattle.rules.specs.declared.Kind.TheVariants.{Data, Guide}
@@ -91,7 +91,7 @@ written l =
 -- the guide file and the data file, what lookup shows then, the D, the load file before and after it, an empty file and a bad one; the
 -- data file checked before it is taken and afterwards, and the bad one checked
 unfoldable pub seen : List (List ℕ)
-unfolding spelled runs_of put_at day_of cycle_of whole_count count_of function_of number_of house_of street_of place_of esn_of has_esn date_of company_of row_street_of row_place_of low_of high_of parity_of allows row_esn_of row_function_of with_esn frameDateOf name_of header_of same_frame trailer_of is_direction is_date is_cycle is_tally keeps_frame keeps_other keeps house_fault end_fault high_fault parity_fault is_whole fault_by fault_in record_fault row_fault find first place with_place good_length state_of slot_day record_of slot_of is_zero fits_slot day_fits used_sound slot_sound unsound_slot register_sound is_present is_vacant row_of row_slot_of free_row_slot present_sound row_slot_sound unsound_row_slot guide_sound hits covers same_street meet_from meets clash same_row filed_of has_number find_number is_over find_row free_at is_reusable reusable_at find_free find_reusable find_spare answer_of shown register_after step applied row_code_of clash_at find_clash vacant_at find_vacant same_at find_same entry_under find_entry row_applied lines_in good_file header_line trailer_line line_at bad_line lines_checked trailer_checked frame_checked checked line_applied after answer_at answers_to zeros_in others_in refused_file applied_file taken foretold history_to history_after start taking run walked count is_number seen_in lookup packed for_load width among_spaces left_digits right_digits frame_with header_with trailer_with entry_at entries_in lines_to header_for trailer_for load_file load_size load_header later_at wide_at narrow_refusal header_refusal load_refusal wide_slot loaded
+unfolding spelled runs_of put_at day_of cycle_of whole_count count_of function_of number_of house_of street_of place_of esn_of has_esn date_of company_of row_street_of row_place_of low_of high_of parity_of allows row_esn_of row_function_of with_esn frame_date_of name_of header_of same_frame trailer_of is_direction is_date is_cycle is_tally keeps_frame keeps_other keeps house_fault end_fault high_fault parity_fault is_whole fault_by fault_in record_fault row_fault find first place with_place good_length state_of slot_day record_of slot_of is_zero fits_slot day_fits used_sound slot_sound unsound_slot register_sound is_present is_vacant row_of row_slot_of free_row_slot present_sound row_slot_sound unsound_row_slot guide_sound hits covers same_street meet_from meets clash same_row filed_of has_number find_number is_over find_row free_at is_reusable reusable_at find_free find_reusable find_spare answer_of shown register_after step applied row_code_of clash_at find_clash vacant_at find_vacant same_at find_same entry_under find_entry row_applied lines_in good_file header_line trailer_line line_at bad_line lines_checked trailer_checked frame_checked checked line_applied after answer_at answers_to zeros_in others_in refused_file applied_file taken foretold history_to history_after start taking run walked count is_number seen_in lookup packed for_load width among_spaces left_digits right_digits frame_with header_with trailer_with entry_at entries_in lines_to header_for trailer_for load_file load_size load_header later_at wide_at narrow_refusal header_refusal load_refusal wide_slot loaded
 seen =
     let o = run (record { kind = Guide; bytes = guide_file; answers = 1 ∷ []; last = 0 } ∷ []) (start 1 1) in
     let t = taken (Data Two) o.stores data_file (1 ∷ 1 ∷ 1 ∷ 1 ∷ 1 ∷ []) 0 in
