@@ -68,6 +68,7 @@ fn is_too_early(register: &[u8], m: Found, c: Code, d: Day) -> bool
 }
 
 // The answers 12 to 15: which codes a state takes.
+#[tactic(auto, unfolding(rules::specs::Walks::first))]
 fn state_answer(c: Code, state: u8) -> u8
     ensures { result ≡ first (state_table c state) }
 {
