@@ -1,6 +1,7 @@
 -- What six bytes name by the two readings. A day that they name is one that a slot can have (date_fits); the former reading is told from
 -- the present one (former_is), and a former day that has a reading is that day now (anew_is). The two formulas are compared by the cases
 -- that they split on, the century, January and February, and the leap year; within a case they are linear. Assumes nothing.
+use Rattle.std.specs.Prelude.{Option, Some, None}
 use mathlib.Core.Path.{◌≡◌, refl, ap}
 use mathlib.Core.Logic.{◌≢◌}
 use mathlib.Core.List.{List}
@@ -10,16 +11,12 @@ use native.Mathlib.Omega.{arith}
 use lib.Dec.{leb, eqb}
 use lib.ListN.{length}
 use borrow.Author.Tests.{eqb-true, eqb-false, leb-true, leb-false, le-leb, lt-leb}
-use Rattle.text.specs.declared.Spelled.{Spelled}
-use Rattle.text.specs.declared.Spelled.TheVariants.{Number, NoNumber}
-use Rattle.text.specs.Text.{spelled, on_number, part}
+use Rattle.text.specs.Text.{spelled, part, on_some}
 use Rattle.text.proofs.Laws.{and_left, and_right}
 use Rattle.calendar.specs.declared.Day.{Day}
-use Rattle.calendar.specs.declared.Date.{Date}
-use Rattle.calendar.specs.declared.Date.TheVariants.{Day as a_day, NoDate}
 use Rattle.calendar.specs.declared.Reading.{Reading}
 use Rattle.calendar.specs.declared.Reading.TheVariants.{Present, Former}
-use Rattle.calendar.specs.Calendar.{leap, month_days, is_day, day_number, day_from, dated, day_of, on_day, no_later}
+use Rattle.calendar.specs.Calendar.{leap, month_days, is_day, day_number, day_from, dated, day_of, no_later}
 use Rattle.calendar.specs.Former.{former_number, former_from, former_of, day_by, formerly}
 use Rattle.calendar.proofs.DayLaws.{OfMonth, day_most}
 
@@ -46,18 +43,18 @@ of_month m d y e =
     )
 
 -- what is so of two readings of any three numbers is so of them for six bytes
-module _ (P : Date → Date → Type 0) (f g : ℕ → ℕ → ℕ → Date) (none : P NoDate NoDate) (each : (m d y : ℕ) → P (f m d y) (g m d y)) where
+module _ (P : Option Day → Option Day → Type 0) (f g : ℕ → ℕ → ℕ → Option Day) (none : P None None) (each : (m d y : ℕ) → P (f m d y) (g m d y)) where
   dated_both : (s : List ℕ) → P (dated f s) (dated g s)
   dated_both s = go (eqb (length s) 6) (spelled 2 2 (part 0 2 s)) (spelled 2 2 (part 2 2 s)) (spelled 2 2 (part 4 2 s))
     where
-      go : (b : Bool) (m d y : Spelled)
-          → P (cond b (on_number m NoDate (λ m. on_number d NoDate (λ d. on_number y NoDate (λ y. f m d y)))) NoDate)
-          (cond b (on_number m NoDate (λ m. on_number d NoDate (λ d. on_number y NoDate (λ y. g m d y)))) NoDate)
+      go : (b : Bool) (m d y : Option ℕ)
+          → P (cond b (on_some m None (λ m. on_some d None (λ d. on_some y None (λ y. f m d y)))) None)
+          (cond b (on_some m None (λ m. on_some d None (λ d. on_some y None (λ y. g m d y)))) None)
       go false m d y = none
-      go true NoNumber d y = none
-      go true (Number m) NoNumber y = none
-      go true (Number m) (Number d) NoNumber = none
-      go true (Number m) (Number d) (Number y) = each m d y
+      go true None d y = none
+      go true (Some m) None y = none
+      go true (Some m) (Some d) None = none
+      go true (Some m) (Some d) (Some y) = each m d y
 
 -- ---- the last day is 36524
 
@@ -86,7 +83,7 @@ date_fits f = dated_both (λ a b. no_later a ≡ true) day_from day_from refl ea
     each : (m d y : ℕ) → no_later (day_from m d y) ≡ true
     each m d y = go (is_day m d y) refl
       where
-        go : (b : Bool) → is_day m d y ≡ b → no_later (cond b (a_day (record { 0 = day_number m d y })) NoDate) ≡ true
+        go : (b : Bool) → is_day m d y ≡ b → no_later (cond b (Some (record { 0 = day_number m d y })) None) ≡ true
         go false e = refl
         go true e = le-leb (day_number m d y) 36524 (number_most m d y (of_month m d y e))
 
@@ -130,10 +127,10 @@ former_number_lem m d y o = go (leb 70 y) refl (leb m 2) refl (leap y) refl (day
         formerly_late n _ (omega arith) (omega arith)
 
 -- the former day of a date, told from the present one
-abbrev as_before : Date → Date
-as_before x = on_day x NoDate (λ d. a_day (record { 0 = formerly d.0 }))
+abbrev as_before : Option Day → Option Day
+as_before x = on_some x None (λ d. Some (record { 0 = formerly d.0 }))
 
-pub former_is : (f : List ℕ) → former_of f ≡ on_day (day_of f) NoDate (λ d. a_day (record { 0 = formerly d.0 }))
+pub former_is : (f : List ℕ) → former_of f ≡ on_some (day_of f) None (λ d. Some (record { 0 = formerly d.0 }))
 unfolding former_of day_of
 former_is f = dated_both (λ a b. a ≡ as_before b) former_from day_from refl each f
   where
@@ -141,10 +138,10 @@ former_is f = dated_both (λ a b. a ≡ as_before b) former_from day_from refl e
     each m d y = go (is_day m d y) refl
       where
         go : (b : Bool) → is_day m d y ≡ b
-            → cond b (a_day (record { 0 = former_number m d y })) NoDate
-            ≡ as_before (cond b (a_day (record { 0 = day_number m d y })) NoDate)
+            → cond b (Some (record { 0 = former_number m d y })) None
+            ≡ as_before (cond b (Some (record { 0 = day_number m d y })) None)
         go false e = refl
-        go true e = ap (λ (n : ℕ). a_day (record { 0 = n })) (former_number_lem m d y (of_month m d y e))
+        go true e = ap (λ (n : ℕ). Some (record { 0 = n })) (former_number_lem m d y (of_month m d y e))
 
 -- no day has the number that it had before
 pub formerly_other : (n : ℕ) → formerly n ≢ n
@@ -163,26 +160,26 @@ formerly_back n f e h = go (leb 10957 n) refl e
     go false k e = absurd (omega arith)
 
 -- so a date whose former day has a reading has that reading now
-pub anew_is : (f : List ℕ) (d : Day) → former_of f ≡ a_day d → d.0 ≤ 25567 → day_of f ≡ a_day (record { 0 = d.0 + 10957 })
+pub anew_is : (f : List ℕ) (d : Day) → former_of f ≡ Some d → d.0 ≤ 25567 → day_of f ≡ Some (record { 0 = d.0 + 10957 })
 anew_is f d e h = go (day_of f) (rw (former_is f) at e)
   where
-    go : (x : Date) → as_before x ≡ a_day d → x ≡ a_day (record { 0 = d.0 + 10957 })
-    go NoDate q = absurd (let z : ◌≡◌ {A = ℕ} 0 1 = cc in omega arith)
-    go (a_day x) q =
-        ap (λ (n : ℕ). a_day (record { 0 = n })) (formerly_back x.0 d.0 (ap (λ (y : Date). on_day y 0 (λ d. d.0)) q) h)
+    go : (x : Option Day) → as_before x ≡ Some d → x ≡ Some (record { 0 = d.0 + 10957 })
+    go None q = absurd (let z : ◌≡◌ {A = ℕ} 0 1 = cc in omega arith)
+    go (Some x) q =
+        ap (λ (n : ℕ). Some (record { 0 = n })) (formerly_back x.0 d.0 (ap (λ (y : Option Day). on_some y 0 (λ d. d.0)) q) h)
 
 -- ---- for the code: the day by either reading, told from the present one
 
 module _ (f : List ℕ) (x : Reading) where
-  pub by_none : NoDate ≡ day_of f → NoDate ≡ day_by x f
+  pub by_none : None ≡ day_of f → None ≡ day_by x f
   by_none e = go x
     where
-      go : (x : Reading) → NoDate ≡ day_by x f
+      go : (x : Reading) → None ≡ day_by x f
       go Present = e
       go Former = rw (former_is f, ← e) refl
 
-  pub by_present : (d : Day) → x ≡ Present → a_day d ≡ day_of f → a_day d ≡ day_by x f
+  pub by_present : (d : Day) → x ≡ Present → Some d ≡ day_of f → Some d ≡ day_by x f
   by_present d p e = rw p e
 
-  pub by_former : (d : Day) (n : ℕ) → x ≡ Former → a_day d ≡ day_of f → n ≡ formerly d.0 → a_day (record { 0 = n }) ≡ day_by x f
+  pub by_former : (d : Day) (n : ℕ) → x ≡ Former → Some d ≡ day_of f → n ≡ formerly d.0 → Some (record { 0 = n }) ≡ day_by x f
   by_former d n p e q = rw (p, former_is f, ← e, q) refl

@@ -1,10 +1,8 @@
 -- 01, "Dates", with the years as 2026-02 reads them: the day that six bytes name, and the four bytes of a slot's day.
 -- Assumes nothing.
-use Rattle.std.specs.Prelude.{ℕ, ◌+◌, ◌*◌, ◌-◌, ◌/◌, ◌%◌, List, [], ◌∷◌, Bool, true, ◌&&◌, cond, leb, ltb, eqb, length, get_or}
-use Rattle.text.specs.Text.{spelled, on_number, part}
+use Rattle.std.specs.Prelude.{ℕ, ◌+◌, ◌*◌, ◌-◌, ◌/◌, ◌%◌, List, [], ◌∷◌, Bool, true, ◌&&◌, cond, leb, ltb, eqb, length, get_or, Option, Some, None}
+use Rattle.text.specs.Text.{spelled, part, on_some}
 use Rattle.calendar.specs.declared.Day.{Day}
-use Rattle.calendar.specs.declared.Date.{Date}
-use Rattle.calendar.specs.declared.Date.TheVariants.{Day as a_day, NoDate}
 
 -- "the lengths of the twelve months stand in a constant table": since 2026-04 here alone; the code works them out, DayLaws `month_is`
 abbrev pub months : List ℕ
@@ -35,35 +33,30 @@ abbrev pub day_number : ℕ → ℕ → ℕ → ℕ
 day_number m d y =
     365 * years_of y + (years_of y + 1) / 4 + (367 * m - 362) / 12 - cond (leb m 2) 0 (cond (leap y) 1 2) + d - 1
 
-abbrev pub day_from : ℕ → ℕ → ℕ → Date
-day_from m d y = cond (is_day m d y) (a_day (record { 0 = day_number m d y })) NoDate
+abbrev pub day_from : ℕ → ℕ → ℕ → Option Day
+day_from m d y = cond (is_day m d y) (Some (record { 0 = day_number m d y })) None
 
 -- "Dates are MMDDYY": what is made of the three numbers
-abbrev pub dated : (ℕ → ℕ → ℕ → Date) → List ℕ → Date
+abbrev pub dated : (ℕ → ℕ → ℕ → Option Day) → List ℕ → Option Day
 dated from f =
     cond (eqb (length f) 6)
-    (on_number (spelled 2 2 (part 0 2 f)) NoDate (λ m.
-    on_number (spelled 2 2 (part 2 2 f)) NoDate (λ d.
-    on_number (spelled 2 2 (part 4 2 f)) NoDate (λ y.
+    (on_some (spelled 2 2 (part 0 2 f)) None (λ m.
+    on_some (spelled 2 2 (part 2 2 f)) None (λ d.
+    on_some (spelled 2 2 (part 4 2 f)) None (λ y.
     from m d y))))
-    NoDate
+    None
 
-unfoldable pub day_of : List ℕ → Date
+unfoldable pub day_of : List ℕ → Option Day
 day_of f = dated day_from f
-
--- what is made of the day, or what stands where there is no date
-abbrev pub on_day : {A : Type 0} → Date → A → (Day → A) → A
-on_day (a_day d) other k = k d
-on_day NoDate other k = other
 
 -- a slot's day is "at most 36524"
 abbrev pub on_calendar : Day → Bool
 on_calendar d = leb d.0 36524
 
 -- a day that six bytes name is so by itself
-abbrev pub no_later : Date → Bool
-no_later (a_day d) = on_calendar d
-no_later NoDate = true
+abbrev pub no_later : Option Day → Bool
+no_later (Some d) = on_calendar d
+no_later None = true
 
 -- "1-4 day number, high byte first"
 abbrev pub stored_day : ℕ → ℕ → ℕ → ℕ → Day

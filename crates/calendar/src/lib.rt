@@ -7,21 +7,12 @@ ghost use Rattle.calendar.specs.Calendar.{leap, month_days, days_before, years_o
 ghost use Rattle.calendar.specs.Calendar.{stored_day, day_bytes, is_before, is_past, on_calendar};
 ghost use Rattle.calendar.specs.Former.{day_by, formerly, anew};
 
-use text::Spelled;
-
 // A day number. It is made only where a date field or the four bytes of a slot are read, or a stored day is counted anew.
-#[derive(Clone, Copy)]
+#[derive(Clone, Copy, PartialEq, Eq, PartialOrd, Ord)]
 pub struct Day(u32);
 
 // A day number in a slot, the high byte first.
 pub type DayBytes = [u8; 4];
-
-// What six bytes name.
-#[derive(Clone, Copy)]
-pub enum Date {
-    Day(Day),
-    NoDate,
-}
 
 // How dates are read: as now, or as they were before, when each year was 20YY and 010100 was day 0.
 #[derive(Clone, Copy)]
@@ -59,7 +50,7 @@ fn is_leap(y: u32) -> bool
 }
 
 // The days of the year before month m: 367 over the twelve months as if February had 30, of which it is one or two short. Month 13 is the
-// end of the year.
+// end of the year, so a type of the months 1 to 12 is not what is asked for here, and month, day and year stay numbers.
 fn days_before(m: u32, y: u32) -> u32
     requires { (1 ≤ m) × (m ≤ 13) }
     ensures { (result ≡ days_before m y) × (result ≤ 366) }
@@ -87,10 +78,7 @@ fn has_day(m: u32, d: u32, y: u32) -> bool
     requires { (1 ≤ m) × (m ≤ 12) × (y ≤ 99) }
     ensures { result ≡ leb d (month_days m y) }
 {
-    if d <= SHORTEST {
-        return true;
-    }
-    d <= month_days(m, y)
+    d <= SHORTEST || d <= month_days(m, y)
 }
 
 // The years since 1970.
@@ -112,43 +100,25 @@ fn day_number(m: u32, d: u32, y: u32) -> u32
     365 * z + (z + 1) / 4 + days_before(m, y) + d - 1
 }
 
-fn day_from(m: u32, d: u32, y: u32) -> Date
+fn day_from(m: u32, d: u32, y: u32) -> Option<Day>
     ensures { (result ≡ day_from m d y) × (no_later result ≡ true) }
 {
-    if 99 < y {
-        return Date::NoDate;
+    if 99 < y || !(1..=12).contains(&m) || d < 1 || !has_day(m, d, y) {
+        return None;
     }
-    if m < 1 {
-        return Date::NoDate;
-    }
-    if 12 < m {
-        return Date::NoDate;
-    }
-    if d < 1 {
-        return Date::NoDate;
-    }
-    if !has_day(m, d, y) {
-        return Date::NoDate;
-    }
-    Date::Day(Day(day_number(m, d, y)))
+    Some(Day(day_number(m, d, y)))
 }
 
 // The day that six bytes MMDDYY name; it is at most 36524.
-pub fn day_in(f: &[u8]) -> Date
+pub fn day_in(f: &[u8]) -> Option<Day>
     ensures { (result ≡ day_of f.now) × (no_later result ≡ true) }
 {
     if f.len() != DATE_SIZE {
-        return Date::NoDate;
+        return None;
     }
-    let Spelled::Number(m) = text::two_digits(f[0], f[1]) else {
-        return Date::NoDate;
-    };
-    let Spelled::Number(d) = text::two_digits(f[2], f[3]) else {
-        return Date::NoDate;
-    };
-    let Spelled::Number(y) = text::two_digits(f[4], f[5]) else {
-        return Date::NoDate;
-    };
+    let m = text::two_digits(f[0], f[1])?;
+    let d = text::two_digits(f[2], f[3])?;
+    let y = text::two_digits(f[4], f[5])?;
     day_from(m, d, y)
 }
 
@@ -164,63 +134,52 @@ fn former_number(n: u32) -> u32
 }
 
 // The day that six bytes name by a reading: they are read in one way, and the number that the day had before is told from it.
-pub fn day_by(reading: Reading, f: &[u8]) -> Date
+pub fn day_by(reading: Reading, f: &[u8]) -> Option<Day>
     ensures { (result ≡ day_by reading f.now) × (no_later result ≡ true) }
 {
-    let Date::Day(day) = day_in(f) else {
-        return Date::NoDate;
-    };
+    let day = day_in(f)?;
     match reading {
-        Reading::Present => Date::Day(day),
-        Reading::Former => Date::Day(Day(former_number(day.0))),
+        Reading::Present => Some(day),
+        Reading::Former => Some(Day(former_number(day.0))),
     }
 }
 
 impl Day {
     // What a day that was stored before is now, if it has a reading.
-    pub fn anew(self) -> Date
+    pub fn anew(self) -> Option<Day>
         ensures { result ≡ anew self }
     {
         if self.0 <= FORMER_LAST {
-            return Date::Day(Day(self.0 + DAY_2000));
+            return Some(Day(self.0 + DAY_2000));
         }
-        Date::NoDate
+        None
     }
 
     // The day of a slot, from its four bytes, the high byte first.
     pub fn stored(a: u8, b: u8, c: u8, d: u8) -> Day
         ensures { result ≡ stored_day a b c d }
     {
-        Day(text::wide(a) * 16777216 + text::wide(b) * 65536 + text::wide(c) * 256 + text::wide(d))
+        Day(u32::from_be_bytes([a, b, c, d]))
     }
 
     // The four bytes of a day in a slot.
     pub fn bytes(self) -> DayBytes
         ensures { result ≡ day_bytes self }
     {
-        let n = self.0;
-        [
-            (n / 16777216 % 256) as u8,
-            (n / 65536 % 256) as u8,
-            (n / 256 % 256) as u8,
-            (n % 256) as u8,
-        ]
+        self.0.to_be_bytes()
     }
 
     pub fn is_before(self, other: Day) -> bool
         ensures { result ≡ is_before self other }
     {
-        self.0 < other.0
+        self < other
     }
 
     // Whether so many days have passed since this one on that day.
     pub fn is_past(self, days: u32, today: Day) -> bool
         ensures { result ≡ is_past self days today }
     {
-        if today.0 < days {
-            return false;
-        }
-        self.0 <= today.0 - days
+        days <= today.0 && self.0 <= today.0 - days
     }
 
     // Whether six bytes can name it. A slot's four bytes can hold more.

@@ -1,38 +1,21 @@
 -- What decides of ranges before all of it is read: a parity that does not allow the number, and ends that lie apart.
 -- Assumes nothing.
-use mathlib.Core.Path.{◌≡◌, refl, sym, ap, ◌∙◌}
-use mathlib.Core.Bool.{Bool, true, false, ◌&&◌}
+use Rattle.text.specs.Text.{on_some}
+use Rattle.std.specs.Prelude.{Option, Some, None}
+use mathlib.Core.Path.{◌≡◌, refl, ◌∙◌}
+use mathlib.Core.Bool.{Bool, true, false}
 use mathlib.Core.List.{List}
 use Prim.Native.Nat.{ℕ, ◌+◌, ◌%◌, ◌<◌, min, max}
 use native.Mathlib.Omega.{arith}
-use lib.Dec.{leb}
 use borrow.Author.Tests.{lt-leb}
-use Rattle.text.specs.declared.Spelled.{Spelled}
-use Rattle.text.specs.declared.Spelled.TheVariants.{Number, NoNumber}
-use Rattle.text.specs.Text.{on_number}
-use Rattle.layout.specs.Fields.{row_street_of, row_place_of, parity_of, low_of, high_of, allows}
-use Rattle.rules.specs.Covers.{hits, meet_from, meets, clash}
+use Rattle.layout.specs.Fields.{row_street_of, row_place_of, parity_of, low_of, high_of}
+use Rattle.rules.specs.Covers.{meet_from, meets, clash}
 use Rattle.rules.proofs.WalkLaws.{clash-bool}
 use Rattle.rules.proofs.ClashLaws.{allows_alike, near, clash_yes, hit_of, over_is}
-use Rattle.text.proofs.Laws.{and_false}
 
-pub no_number : (x : Spelled) → false ≡ on_number x false (λ n. false)
-no_number (Number n) = refl
-no_number NoNumber = refl
-
-pub hits_not : (g : List ℕ) (n : ℕ) → allows (parity_of g) n ≡ false → false ≡ hits g n
-unfolding hits
-hits_not g n e = rw e (go (low_of g) (high_of g))
-  where
-    go : (a b : Spelled) → false ≡ on_number a false (λ low. on_number b false (λ high. leb low n && (leb n high && false)))
-    go (Number a) (Number b) = sym (ap (λ x. leb a n && x) (and_false (leb n b)) ∙ and_false (leb a n))
-    go (Number a) NoNumber = refl
-    go NoNumber b = refl
-
--- a number below Low
-pub hits_below : (g : List ℕ) (n low : ℕ) → low_of g ≡ Number low → n < low → false ≡ hits g n
-unfolding hits
-hits_below g n low e l = rw (e, lt-leb low n l) (no_number (high_of g))
+pub no_number : (x : Option ℕ) → false ≡ on_some x false (λ n. false)
+no_number (Some n) = refl
+no_number None = refl
 
 -- where two rows clash, they share a number, and its remainder is of both parities too
 pub clash_parity : (g h : List ℕ) → meet_from (parity_of g) (parity_of h) 1 0 ≡ false → false ≡ clash g h
@@ -57,11 +40,11 @@ unfolding meet_from
 meet_none p q high n h = rw (lt-leb _ _ h, lt-leb (n + 1) high (omega arith))
 
 -- one ends before the other begins
-pub meets_not : (g h : List ℕ) (b c : ℕ) → high_of g ≡ Number b → low_of h ≡ Number c → b < c → false ≡ meets g h
+pub meets_not : (g h : List ℕ) (b c : ℕ) → high_of g ≡ Some b → low_of h ≡ Some c → b < c → false ≡ meets g h
 unfolding meets
 meets_not g h b c e f l = rw (e, f) (go (low_of g) (high_of h))
   where
-    go : (x y : Spelled) → false ≡ on_number x false (λ a. on_number y false (λ d. meet_from (parity_of g) (parity_of h) (min b d) (max a c)))
-    go (Number a) (Number d) = meet_none (parity_of g) (parity_of h) (min b d) (max a c) (omega arith)
-    go (Number a) NoNumber = refl
-    go NoNumber y = refl
+    go : (x y : Option ℕ) → false ≡ on_some x false (λ a. on_some y false (λ d. meet_from (parity_of g) (parity_of h) (min b d) (max a c)))
+    go (Some a) (Some d) = meet_none (parity_of g) (parity_of h) (min b d) (max a c) (omega arith)
+    go (Some a) None = refl
+    go None y = refl

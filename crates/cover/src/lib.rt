@@ -1,87 +1,51 @@
 // Whether a row covers an address, and whether two rows clash or are the same.
 #![tactic(auto)]
 
-ghost use Rattle.std.specs.Prelude.{◌≡◌, min, max};
+ghost use Rattle.std.specs.Prelude.{◌≡◌};
 ghost use Rattle.layout.specs.Fields.{parity_of};
 ghost use Rattle.rules.specs.Covers.{hits, over, covers, same_street, both_allow, meet_from, meets, clash, equal_numbers, same_row};
 
 use layout::field;
-use text::Spelled;
 
 // Whether a house number lies in the row's range and is of its parity. The parity is one byte, and tells the rows of the
 // other side of a street before an end is read; High is read only where Low is no more than the number.
+#[tactic(auto, unfolding(rules::specs::Covers::hits))]
 pub fn is_hit(row: &[u8], n: u32) -> bool
     ensures { result ≡ hits row.now n }
 {
-    if field::allowed(field::parity(row), n) {
-        let Spelled::Number(low) = field::low(row) else {
-            return false;
-        };
-        if n < low {
-            return false;
-        }
-        let Spelled::Number(high) = field::high(row) else {
-            return false;
-        };
-        return n <= high;
-    }
-    false
+    field::allowed(field::parity(row), n)
+        && field::low(row).is_some_and(|low| low <= n)
+        && field::high(row).is_some_and(|high| n <= high)
 }
 
 // Whether a row stands over house number n of a street in a place. Its range is asked first: a walk passes most rows of other
 // streets at a glance, and of one street's rows few have the number.
+#[tactic(auto, unfolding(rules::specs::Covers::over))]
 pub fn is_over(row: &[u8], street: &[u8], place: &[u8], n: u32) -> bool
     ensures { result ≡ over row.now street.now place.now n }
 {
-    if is_hit(row, n) {
-        if text::same(field::row_street(row), street) {
-            return text::same(field::row_place(row), place);
-        }
-    }
-    false
+    is_hit(row, n)
+        && text::same(field::row_street(row), street)
+        && text::same(field::row_place(row), place)
 }
 
 // Whether a row covers the address of a record.
+#[tactic(auto, unfolding(rules::specs::Covers::covers))]
 pub fn does_cover(row: &[u8], rec: &[u8]) -> bool
     ensures { result ≡ covers row.now rec.now }
 {
-    if text::same(field::row_street(row), field::street(rec)) {
-        if text::same(field::row_place(row), field::place(rec)) {
-            let Spelled::Number(n) = field::house(rec) else {
-                return false;
-            };
-            return is_hit(row, n);
-        }
-    }
-    false
+    text::same(field::row_street(row), field::street(rec))
+        && text::same(field::row_place(row), field::place(rec))
+        && field::house(rec).is_some_and(|n| is_hit(row, n))
 }
 
 // Whether two rows have the same street fields.
+#[tactic(auto, unfolding(rules::specs::Covers::same_street))]
 pub fn is_same_street(g: &[u8], h: &[u8]) -> bool
     ensures { result ≡ same_street g.now h.now }
 {
-    if text::same(field::row_street(g), field::row_street(h)) {
-        return text::same(field::row_place(g), field::row_place(h));
-    }
-    false
-}
-
-fn lower(a: u32, b: u32) -> u32
-    ensures { result ≡ min a b }
-{
-    if a < b {
-        return a;
-    }
-    b
-}
-
-fn higher(a: u32, b: u32) -> u32
-    ensures { result ≡ max a b }
-{
-    if a < b {
-        return b;
-    }
-    a
+    text::same(field::row_street(g), field::row_street(h))
+        && text::same(field::row_place(g), field::row_place(h))
 }
 
 fn both_allow(p: u8, q: u8, n: u32) -> bool
@@ -91,47 +55,35 @@ fn both_allow(p: u8, q: u8, n: u32) -> bool
 }
 
 // Whether n or the next number is at most high and of both parities.
+#[tactic(auto, unfolding(rules::specs::Covers::meet_from))]
 fn meet_from(p: u8, q: u8, high: u32, n: u32) -> bool
     ensures { result ≡ meet_from p q high n }
 {
-    if high < n {
-        return false;
-    }
-    if both_allow(p, q, n) {
-        return true;
-    }
-    if n < high {
-        return both_allow(p, q, n + 1);
-    }
-    false
+    n <= high && (both_allow(p, q, n) || n < high && both_allow(p, q, n + 1))
 }
 
 // Whether some house number is in both ranges and of both parities. Rows mostly come in the order of their numbers: that g
 // ends before h begins is asked first, and then two ends of the four are not read.
+#[tactic(auto, using(crate::proofs::RangeLaws::meets_not, crate::proofs::RangeLaws::no_number), unfolding(rules::specs::Covers::meets))]
 fn do_meet(g: &[u8], h: &[u8]) -> bool
     ensures { result ≡ meets g.now h.now }
 {
-    let Spelled::Number(b) = field::high(g) else {
+    let Some(b) = field::high(g) else {
         return false;
     };
-    let Spelled::Number(c) = field::low(h) else {
+    let Some(c) = field::low(h) else {
         return false;
     };
     if b < c {
         return false;
     }
-    let Spelled::Number(a) = field::low(g) else {
+    let Some(a) = field::low(g) else {
         return false;
     };
-    let Spelled::Number(d) = field::high(h) else {
+    let Some(d) = field::high(h) else {
         return false;
     };
-    meet_from(
-        field::parity(g),
-        field::parity(h),
-        lower(b, d),
-        higher(a, c),
-    )
+    meet_from(field::parity(g), field::parity(h), b.min(d), a.max(c))
 }
 
 // Whether some number is of both parities: if one is, 0 or 1 is. Two sides of a street are told apart before an end is read.
@@ -142,38 +94,27 @@ fn may_meet(g: &[u8], h: &[u8]) -> bool
 }
 
 // Whether some house number is covered by both rows. As in is_over, streets are compared last.
+#[tactic(auto, using(crate::proofs::RangeLaws::clash_parity), unfolding(rules::specs::Covers::clash))]
 pub fn do_clash(g: &[u8], h: &[u8]) -> bool
     ensures { result ≡ clash g.now h.now }
 {
-    if may_meet(g, h) {
-        if do_meet(g, h) {
-            return is_same_street(g, h);
-        }
-    }
-    false
+    may_meet(g, h) && do_meet(g, h) && is_same_street(g, h)
 }
 
-fn are_equal(a: Spelled, b: Spelled) -> bool
+fn are_equal(a: Option<u32>, b: Option<u32>) -> bool
     ensures { result ≡ equal_numbers a b }
 {
-    let Spelled::Number(m) = a else {
-        return false;
-    };
-    let Spelled::Number(n) = b else {
-        return false;
-    };
-    m == n
+    a.is_some() && a == b
 }
 
 // Whether two rows have the same street fields, ends, parity and ESN.
+#[tactic(auto, unfolding(rules::specs::Covers::same_row))]
 pub fn is_same_row(g: &[u8], h: &[u8]) -> bool
     ensures { result ≡ same_row g.now h.now }
 {
-    if is_same_street(g, h) {
-        return are_equal(field::low(g), field::low(h))
-            & (are_equal(field::high(g), field::high(h))
-                & ((field::parity(g) == field::parity(h))
-                    & field::same_esn(field::row_esn(g), field::row_esn(h))));
-    }
-    false
+    is_same_street(g, h)
+        && are_equal(field::low(g), field::low(h))
+        && are_equal(field::high(g), field::high(h))
+        && field::parity(g) == field::parity(h)
+        && field::same_esn(field::row_esn(g), field::row_esn(h))
 }

@@ -1,2 +1,1 @@
-pub mod DecideLaws
 pub mod ActLaws

@@ -2,219 +2,176 @@
 // for a record that is to be stored and that 11 to 17 let pass, and a spare slot only where 18 and 19 do too and the number has none.
 #![tactic(auto)]
 
-ghost use Rattle.std.specs.Prelude.{◌≡◌, ◌&&◌, ◌<◌, length};
+ghost use Rattle.std.specs.Prelude.{◌≡◌, ◌&&◌, not, ◌<◌, length, false, IfOk};
+ghost use Rattle.layout.specs.Fields.{number_of, has_esn, esn_of, same_esn, row_esn_of};
+ghost use Rattle.rules.specs.Answering.{as_answer};
+ghost use Rattle.rules.specs.declared.Code.TheVariants.{Insert};
 ghost use Rattle.rules.specs.Walks.{first};
-ghost use Rattle.rules.specs.Slots.{is_held, slots, slot_at, with_slot, record_of, slot_of};
-ghost use Rattle.rules.specs.Records.{is_own, state_in, other_company, too_early, other_esn, find_spare, shown, applied};
-ghost use Rattle.data_step.specs.Deciding.{state_table, early, under, settled, decided_stored, decided};
+ghost use Rattle.rules.specs.Slots.{slots, slot_at, with_slot, record_of, slot_of};
+ghost use Rattle.rules.specs.Records.{is_insert, find_number, find_row, find_spare, answer_of, shown, applied};
+ghost use Rattle.data_step.specs.Deciding.{resting_table, foreign, entry_table, under, late_answer, Does};
 
 use calendar::Day;
 use layout::field;
 use layout::frame::Header;
-use rules::{Code, Filed, Found, answering, states};
+use rules::answering::{self, Undone};
+use rules::{Code, states};
 
-// What is decided of a record: its answer, and where 0 writes and under which row.
+// What is done with a record that is answered 0: it is stored in a slot under a row, or the record there gets another state and day.
 #[derive(Clone, Copy)]
-pub struct Decided {
-    pub answer: u8,
-    pub slot: Found,
-    pub row: Found,
+enum Act {
+    Store { slot: usize, row: usize },
+    Restate { slot: usize },
 }
 
-// The state of the number's slot; that of a free one where it has none.
-fn state_in(register: &[u8], m: Found) -> u8
-    ensures { result ≡ state_in register.now m }
+// 12 and 17 of an I: its number's own slot has to rest, and since a day before.
+#[tactic(auto, unfolding(rules::specs::Walks::first))]
+fn check_resting(slot: &[u8], d: Day) -> Result<(), Undone>
+    ensures { as_answer result ≡ first (resting_table slot.now d) }
 {
-    let Found::At(i) = m else {
-        return states::FREE;
-    };
-    register::state(register::slot_at(register, i))
-}
-
-fn is_other_company(register: &[u8], m: Found, rec: &[u8]) -> bool
-    ensures { result ≡ other_company register.now m rec.now }
-{
-    let Found::At(i) = m else {
-        return false;
-    };
-    !text::same(
-        field::company(register::rec(register::slot_at(register, i))),
-        field::company(rec),
-    )
+    if register::is_live(register::state(slot)) {
+        return Err(Undone::AlreadyThere);
+    }
+    if !register::day(slot).is_before(d) {
+        return Err(Undone::TooEarly);
+    }
+    Ok(())
 }
 
 // C, D or U of a company that does not hold the number.
-fn is_foreign(register: &[u8], m: Found, rec: &[u8], c: Code, state: u8) -> bool
-    ensures { result ≡ is_own c && (is_held state && other_company register.now m rec.now) }
+fn is_foreign(slot: &[u8], rec: &[u8], c: Code) -> bool
+    ensures { result ≡ foreign slot.now rec.now c }
 {
-    if codes::is_own(c) & (state == states::HELD) {
-        return is_other_company(register, m, rec);
+    if codes::is_own(c) & (register::state(slot) == states::HELD) {
+        return !text::same(field::company(register::rec(slot)), field::company(rec));
     }
     false
 }
 
-// Before the slot's day, or for I not after it: an I that is not answered 12 has a resting slot, or none.
-fn is_too_early(register: &[u8], m: Found, c: Code, d: Day) -> bool
-    ensures { result ≡ too_early register.now m c d }
-{
-    let Found::At(i) = m else {
-        return false;
-    };
-    let day = register::day(register::slot_at(register, i));
-    if codes::is_insert(c) {
-        return !day.is_before(d);
-    }
-    d.is_before(day)
-}
-
-// The answers 12 to 15: which codes a state takes.
+// 13 to 17 of C, D, U and M, on their number's own slot.
 #[tactic(auto, unfolding(rules::specs::Walks::first))]
-fn state_answer(c: Code, state: u8) -> u8
-    ensures { result ≡ first (state_table c state) }
+fn check_entry(slot: &[u8], rec: &[u8], c: Code, d: Day) -> Result<(), Undone>
+    ensures { as_answer result ≡ first (entry_table slot.now rec.now c d) }
 {
-    let insert = codes::is_insert(c);
-    let live = register::is_live(state);
-    if insert & live {
-        return answering::ALREADY_THERE;
-    }
-    if !insert & !live {
-        return answering::NOT_THERE;
+    let state = register::state(slot);
+    if !register::is_live(state) {
+        return Err(Undone::NotThere);
     }
     if codes::is_migrate(c) & (state == states::HELD) {
-        return answering::STILL_HELD;
+        return Err(Undone::StillHeld);
     }
     if codes::is_own(c) & (state == states::OPEN) {
-        return answering::OPEN;
+        return Err(Undone::Open);
     }
-    answering::DONE
+    if is_foreign(slot, rec, c) {
+        return Err(Undone::OtherCompany);
+    }
+    if d.is_before(register::day(slot)) {
+        return Err(Undone::TooEarly);
+    }
+    Ok(())
 }
 
-// The answers 11 to 17: what the date, the code and the number's own slot decide.
-fn early_answer(register: &[u8], today: Day, rec: &[u8], c: Code, d: Day, m: Found) -> u8
-    ensures { result ≡ first (early register.now today rec.now c d m) }
+fn is_other_esn(rec: &[u8], row: &[u8]) -> bool
+    ensures { result ≡ has_esn rec.now && not (same_esn (esn_of rec.now) (row_esn_of row.now)) }
 {
-    if today.is_before(d) {
-        return answering::AFTER_HEADER;
-    }
-    let state = state_in(register, m);
-    let answer = state_answer(c, state);
-    if answer != answering::DONE {
-        return answer;
-    }
-    if is_foreign(register, m, rec, c, state) {
-        return answering::OTHER_COMPANY;
-    }
-    if is_too_early(register, m, c, d) {
-        return answering::TOO_EARLY;
-    }
-    answering::DONE
+    field::has_esn(rec) && !field::same_esn(field::esn(rec), field::row_esn(row))
 }
 
-fn is_other_esn(guide: &[u8], k: Found, rec: &[u8]) -> bool
-    ensures { result ≡ other_esn guide.now k rec.now }
+// 18 and 19, of a record that is to be stored: the row that covers it.
+#[tactic(auto, unfolding(rules::specs::Walks::first, rules::specs::Records::find_row))]
+fn row_over(guide: &[u8], rec: &[u8]) -> Result<usize, Undone>
+    ensures answer { as_answer result ≡ first (under guide.now rec.now (find_row rec.now guide.now)) }
+    ensures row { IfOk result (λ k. find_row rec.now guide.now ≡ Some k) }
 {
-    let Found::At(j) = k else {
-        return false;
-    };
-    if field::has_esn(rec) {
-        return !field::same_esn(field::esn(rec), field::row_esn(guide::row_at(guide, j)));
+    let row = guide::find_row(guide, rec).found.ok_or(Undone::NoRow)?;
+    if is_other_esn(rec, guide::row_at(guide, row)) {
+        return Err(Undone::OtherEsn);
     }
-    false
-}
-
-// The answers 18 and 19, of a record that is to be stored: its row and its ESN.
-fn under_answer(guide: &[u8], rec: &[u8], k: Found) -> u8
-    ensures { result ≡ first (under guide.now rec.now k) }
-{
-    let Found::At(_) = k else {
-        return answering::NO_ROW;
-    };
-    if is_other_esn(guide, k, rec) {
-        return answering::OTHER_ESN;
-    }
-    answering::DONE
+    Ok(row)
 }
 
 // The lowest free slot, else the lowest resting one that may be used anew.
-fn find_spare(register: &[u8], today: Day) -> Found
+#[tactic(auto, unfolding(rules::specs::Records::find_spare, rules::specs::Records::find_free, rules::specs::Records::find_reusable))]
+fn find_spare(register: &[u8], today: Day) -> Option<usize>
     ensures { result ≡ find_spare today register.now }
 {
-    let free = register::find_free(register);
-    let f = free.found;
-    let Found::At(_) = f else {
-        let reusable = register::find_reusable(register, today);
-        return reusable.found;
-    };
-    f
+    register::find_free(register)
+        .found
+        .or_else(|| register::find_reusable(register, today).found)
 }
 
-// The slot that a record is stored in: the number's own, or a spare one; 20 where there is none.
-fn settle(register: &[u8], today: Day, m: Found, k: Found) -> Decided
-    ensures { result ≡ settled register.now today m k }
+// 12 to 20 of an I: it goes to its number's own slot, or to a spare one.
+#[tactic(auto, unfolding(rules::specs::Walks::first))]
+fn decide_insert(
+    register: &[u8],
+    guide: &[u8],
+    header: Header,
+    rec: &[u8],
+    d: Day,
+    own: Option<usize>,
+) -> Result<Act, Undone>
+    ensures answer { as_answer result ≡ late_answer register.now guide.now header rec.now Insert d own }
+    ensures act { IfOk result (Does register.now guide.now header rec.now Insert own) }
 {
-    let Found::At(_) = m else {
-        let p = find_spare(register, today);
-        let Found::At(_) = p else {
-            return Decided {
-                answer: answering::NO_SLOT,
-                slot: p,
-                row: k,
-            };
-        };
-        return Decided {
-            answer: answering::DONE,
-            slot: p,
-            row: k,
-        };
-    };
-    Decided {
-        answer: answering::DONE,
-        slot: m,
-        row: k,
+    if let Some(i) = own {
+        check_resting(register::slot_at(register, i), d)?;
     }
+    let row = row_over(guide, rec)?;
+    let slot = own
+        .or_else(|| find_spare(register, header.day))
+        .ok_or(Undone::NoSlot)?;
+    Ok(Act::Store { slot, row })
 }
 
-// 18 to 20, of a record that is to be stored in slot m, if it has one.
-fn decide_stored(register: &[u8], guide: &[u8], today: Day, rec: &[u8], m: Found) -> Decided
-    ensures { result ≡ decided_stored register.now guide.now today rec.now m }
+// 13 to 19 of C, D, U and M: they are for their number's own slot.
+#[tactic(auto, unfolding(rules::specs::Walks::first))]
+fn decide_entry(
+    register: &[u8],
+    guide: &[u8],
+    header: Header,
+    rec: &[u8],
+    c: Code,
+    d: Day,
+    own: Option<usize>,
+) -> Result<Act, Undone>
+    ensures answer { is_insert c ≡ false → as_answer result ≡ late_answer register.now guide.now header rec.now c d own }
+    ensures act { IfOk result (Does register.now guide.now header rec.now c own) }
 {
-    let over = guide::find_row(guide, rec);
-    let k = over.found;
-    let answer = under_answer(guide, rec, k);
-    if answer != answering::DONE {
-        return Decided {
-            answer,
-            slot: m,
-            row: k,
-        };
-    }
-    settle(register, today, m, k)
-}
-
-fn decide(register: &[u8], guide: &[u8], today: Day, rec: &[u8], c: Code, d: Day) -> Decided
-    ensures { result ≡ decided register.now guide.now today rec.now c d }
-{
-    let own = register::find_number(register, field::number(rec));
-    let m = own.found;
-    let answer = early_answer(register, today, rec, c, d, m);
-    if answer != answering::DONE {
-        return Decided {
-            answer,
-            slot: m,
-            row: Found::Nothing,
-        };
-    }
+    let slot = own.ok_or(Undone::NotThere)?;
+    check_entry(register::slot_at(register, slot), rec, c, d)?;
     if codes::does_store(c) {
-        return decide_stored(register, guide, today, rec, m);
+        let row = row_over(guide, rec)?;
+        return Ok(Act::Store { slot, row });
     }
-    Decided {
-        answer: answering::DONE,
-        slot: m,
-        row: Found::Nothing,
+    Ok(Act::Restate { slot })
+}
+
+// The date first, then what the code asks of the number's slot, of the row and of a spare slot.
+#[tactic(auto, unfolding(rules::specs::Walks::first, rules::specs::Records::answer_of, rules::specs::Records::find_number))]
+fn decide(
+    register: &[u8],
+    guide: &[u8],
+    header: Header,
+    rec: &[u8],
+    c: Code,
+    d: Day,
+) -> Result<Act, Undone>
+    ensures answer { as_answer result ≡ answer_of register.now guide.now header rec.now c d }
+    ensures act { IfOk result (Does register.now guide.now header rec.now c (find_number (number_of rec.now) register.now)) }
+{
+    let own = register::find_number(register, field::number(rec)).found;
+    if header.day.is_before(d) {
+        return Err(Undone::AfterHeader);
     }
+    if codes::is_insert(c) {
+        return decide_insert(register, guide, header, rec, d, own);
+    }
+    decide_entry(register, guide, header, rec, c, d, own)
 }
 
 // The slot's part of the register is lent on to be written.
+#[tactic(auto, using(crate::proofs::ActLaws::storing))]
 fn store_at(register: &mut [u8], i: usize, state: u8, d: Day, rec: &[u8], row: &[u8])
     requires { (i < slots register.old) × (length rec.now ≡ 512) }
     ensures { register.new ≡ with_slot register.old i (slot_of state d (shown rec.now row.now)) }
@@ -224,6 +181,7 @@ fn store_at(register: &mut [u8], i: usize, state: u8, d: Day, rec: &[u8], row: &
     register::write_shown(&mut register[a..e], state, d, rec, row);
 }
 
+#[tactic(auto, using(crate::proofs::ActLaws::restating))]
 fn restate_at(register: &mut [u8], i: usize, state: u8, d: Day)
     requires { i < slots register.old }
     ensures { register.new ≡ with_slot register.old i (slot_of state d (record_of (slot_at register.old i))) }
@@ -233,40 +191,29 @@ fn restate_at(register: &mut [u8], i: usize, state: u8, d: Day)
     register::restate(&mut register[a..e], state, d);
 }
 
-// One data record on what the earlier ones left: its answer, and the register afterwards. What is answered 0 has a slot, and a row
-// where it is stored, so the two arms without one are never come to.
+// One data record on what the earlier ones left: its answer, and the register afterwards.
+#[tactic(auto, using(crate::proofs::ActLaws::slot_within, crate::proofs::ActLaws::filed_whole), unfolding(rules::specs::Records::applied, rules::specs::Records::step, rules::specs::Records::register_after))]
 pub fn apply_record(register: &mut [u8], guide: &[u8], header: Header, rec: &[u8]) -> u8
     ensures { (result ≡ (applied register.old guide.now header rec.now).answer)
         × (register.new ≡ (applied register.old guide.now header rec.now).register) }
 {
-    let Filed::Record(c, d) = codes::filed(rec) else {
-        return answering::AFTER_HEADER;
+    let Some((c, d)) = codes::filed(rec) else {
+        return Undone::AfterHeader.number();
     };
-    let today = header.day;
-    let decided = decide(&register[..], guide, today, rec, c, d);
-    let answer = decided.answer;
-    if answer != answering::DONE {
-        return answer;
+    let state = codes::state_after(c);
+    match decide(&register[..], guide, header, rec, c, d) {
+        Ok(Act::Store { slot, row }) => {
+            store_at(
+                &mut register[..],
+                slot,
+                state,
+                d,
+                rec,
+                guide::row_at(guide, row),
+            );
+        }
+        Ok(Act::Restate { slot }) => restate_at(&mut register[..], slot, state, d),
+        Err(why) => return why.number(),
     }
-    let slot = decided.slot;
-    let row = decided.row;
-    let Found::At(i) = slot else {
-        return answering::NO_SLOT;
-    };
-    if codes::does_store(c) {
-        let Found::At(k) = row else {
-            return answering::NO_ROW;
-        };
-        store_at(
-            &mut register[..],
-            i,
-            codes::state_after(c),
-            d,
-            rec,
-            guide::row_at(guide, k),
-        );
-        return answering::DONE;
-    }
-    restate_at(&mut register[..], i, codes::state_after(c), d);
     answering::DONE
 }

@@ -10,146 +10,87 @@ use desk_rules::Marks;
 use std::io;
 use std::io::Read;
 
-// What feeding leaves, and whether all that was said is written.
+// The marks, and all that is lent.
 #[derive(Drop)]
-struct Answered {
+struct Desk {
     marks: Marks,
-    written: io::Result<()>,
+    register: [u8; desk::REGISTER_SIZE],
+    guide: [u8; desk::GUIDE_SIZE],
+    collection: [u8; desk_marks::COLLECTION_SIZE],
+    line: [u8; desk_marks::LINE_SIZE],
+    out: [u8; desk_marks::OUT_SIZE],
 }
 
-// What a read leaves, and whether there is more to read.
-#[derive(Clone, Copy)]
-struct Turn {
-    marks: Marks,
-    more: bool,
-}
-
-// Writes what was said.
-fn write(rt: &impl Print, out: &[u8], n: usize) -> io::Result<()> {
-    rt.write_all(text::part_of(out, 0, n))
-}
-
-// Feeds bytes one by one. What was said is written before the next byte is fed. Behind a write that fails nothing more is written, but
-// each byte is fed.
-fn feed_all(
-    rt: &impl Print,
-    m: Marks,
-    register: &mut [u8],
-    guide: &mut [u8],
-    collection: &mut [u8],
-    line: &mut [u8],
-    out: &mut [u8],
-    input: &[u8],
-) -> Answered
-    ensures { Stands m
-        (bench_of register.old guide.old collection.old line.old out.old)
-        input.now result.marks
-        (bench_of register.new guide.new collection.new line.new out.new) }
-{
-    let mut marks = m;
-    let mut written = Ok(());
-    let mut i = 0;
-    while i < input.len() {
-        let fed = desk::feed(
-            marks,
-            &mut register[..],
-            &mut guide[..],
-            &mut collection[..],
-            &mut line[..],
-            &mut out[..],
-            input[i],
-        );
-        marks = fed.marks;
-        if (0 < fed.said) & written.is_ok() {
-            written = write(rt, &out[..], fed.said);
-        }
-        i += 1;
+impl Desk {
+    // Writes what was said.
+    fn write(&self, rt: &impl Print, said: usize) -> io::Result<()> {
+        rt.write_all(text::part_of(&self.out, 0, said))
     }
-    Answered { marks, written }
-}
 
-// Reads once, and feeds what came. After the last line that is answered, no more is read.
-fn feed_some(
-    rt: &impl Print,
-    source: &mut impl Read,
-    m: Marks,
-    register: &mut [u8],
-    guide: &mut [u8],
-    collection: &mut [u8],
-    line: &mut [u8],
-    out: &mut [u8],
-) -> io::Result<Turn> {
-    // As many bytes as a pipe holds.
-    let mut input = [0u8; 65536];
-    let n = source.read(&mut input)?;
-    let answered = feed_all(
-        rt,
-        m,
-        &mut register[..],
-        &mut guide[..],
-        &mut collection[..],
-        &mut line[..],
-        &mut out[..],
-        &input[..n],
-    );
-    answered.written?;
-    let marks = answered.marks;
-    let more = (0 < n) & !desk_marks::has_stopped(marks);
-    Ok(Turn { marks, more })
-}
-
-// Reads to the end of input. A loop has to end, and nothing says that the input does: it has as many turns as no run uses up.
-fn feed_input(
-    rt: &impl Print,
-    source: &mut impl Read,
-    register: &mut [u8],
-    guide: &mut [u8],
-    collection: &mut [u8],
-    line: &mut [u8],
-    out: &mut [u8],
-) -> io::Result<Marks> {
-    let mut marks = desk_marks::empty();
-    for _ in 0..u64::MAX {
-        let turn = feed_some(
-            rt,
-            source,
-            marks,
-            &mut register[..],
-            &mut guide[..],
-            &mut collection[..],
-            &mut line[..],
-            &mut out[..],
-        )?;
-        marks = turn.marks;
-        if !turn.more {
-            break;
+    // Feeds bytes one by one. What was said is written before the next byte is fed. Behind a write that fails nothing more is written,
+    // but each byte is fed.
+    fn feed_all(&mut self, rt: &impl Print, input: &[u8]) -> io::Result<()>
+        ensures { Stands self.old.marks
+            (bench_of self.old.register self.old.guide self.old.collection self.old.line self.old.out)
+            input.now self.new.marks
+            (bench_of self.new.register self.new.guide self.new.collection self.new.line self.new.out) }
+    {
+        let mut written = Ok(());
+        for byte in input {
+            let fed = desk::feed(
+                self.marks,
+                &mut self.register,
+                &mut self.guide,
+                &mut self.collection,
+                &mut self.line,
+                &mut self.out,
+                *byte,
+            );
+            self.marks = fed.marks;
+            if (0 < fed.said) & written.is_ok() {
+                written = self.write(rt, fed.said);
+            }
         }
+        written
     }
-    Ok(marks)
+
+    // Reads once, and feeds what came. Whether there is more to read: after the last line that is answered, no more is read.
+    fn feed_some(&mut self, rt: &impl Print, source: &mut impl Read) -> io::Result<bool> {
+        // As many bytes as a pipe holds.
+        let mut input = [0; 65536];
+        let n = source.read(&mut input)?;
+        self.feed_all(rt, &input[..n])?;
+        Ok((0 < n) & !desk_marks::has_stopped(self.marks))
+    }
+
+    // Reads to the end of input. A loop has to end, and nothing says that the input does: it has as many turns as no run uses up.
+    fn feed_input(&mut self, rt: &impl Print, source: &mut impl Read) -> io::Result<()> {
+        for _ in 0..u64::MAX {
+            if !self.feed_some(rt, source)? {
+                break;
+            }
+        }
+        Ok(())
+    }
 }
 
 fn main(rt: HostRuntime) -> io::Result<()> {
-    let mut register = [0u8; desk::REGISTER_SIZE];
-    let mut guide = [0u8; desk::GUIDE_SIZE];
-    let mut collection = [0u8; desk_marks::COLLECTION_SIZE];
-    let mut line = [0u8; desk_marks::LINE_SIZE];
-    let mut out = [0u8; desk_marks::OUT_SIZE];
-    let marks = feed_input(
-        &rt,
-        &mut rt.reader(),
-        &mut register,
-        &mut guide,
-        &mut collection,
-        &mut line,
-        &mut out,
-    )?;
+    let mut desk = Desk {
+        marks: desk_marks::empty(),
+        register: [0; desk::REGISTER_SIZE],
+        guide: [0; desk::GUIDE_SIZE],
+        collection: [0; desk_marks::COLLECTION_SIZE],
+        line: [0; desk_marks::LINE_SIZE],
+        out: [0; desk_marks::OUT_SIZE],
+    };
+    desk.feed_input(&rt, &mut rt.reader())?;
     let fed = desk::finish(
-        marks,
-        &mut register,
-        &mut guide,
-        &mut collection,
-        &line,
-        &mut out,
+        desk.marks,
+        &mut desk.register,
+        &mut desk.guide,
+        &mut desk.collection,
+        &desk.line,
+        &mut desk.out,
     );
-    write(&rt, &out, fed.said)
+    desk.write(&rt, fed.said)
 }

@@ -1,10 +1,12 @@
 // A byte of input, and the end of input.
 ghost use Rattle.std.specs.Prelude.{◌≡◌, true, List, ℕ, ◌+◌, ◌≤◌, ◌<◌, length, drop, get_or};
 ghost use Rattle.desk_rules.specs.Hex.{bytes_in};
-ghost use Rattle.desk_rules.specs.Desk.{most_collected, most_typed, most_lines, silent, framed, is_readable, line_ended, typed, fed, ended};
-ghost use Rattle.desk_rules.specs.Served.{bench_of, most_said, has_room, Serves, Laid, Lays};
+ghost use Rattle.desk_rules.specs.Desk.{most_typed, most_lines, silent, framed, is_readable, line_ended, typed, fed, ended};
+ghost use Rattle.desk_rules.specs.Served.{bench_of, Serves, Lays};
+ghost use Rattle.desk_lines.specs.Acts.{IsSameLoan, Acts};
 
-use crate::frames;
+use crate::bench::Bench;
+use crate::frames::Frame;
 use desk_rules::{Fed, Marks};
 
 // So many bytes has a line of so many characters.
@@ -20,10 +22,7 @@ pub const GUIDE_SIZE: usize = SLOTS * guide::SLOT;
 fn is_readable(line: &[u8]) -> bool
     ensures { result ≡ is_readable line.now }
 {
-    if (1 <= line.len()) & (line.len() <= desk_marks::MOST_TYPED) {
-        return hexadecimal::is_hex(line);
-    }
-    false
+    !line.is_empty() && line.len() <= desk_marks::MOST_TYPED && hexadecimal::is_hex(line)
 }
 
 // One more character of the line; of a line that is too long, those behind the 2051st are not kept.
@@ -32,16 +31,12 @@ fn type_byte(m: Marks, line: &mut [u8], b: u8) -> Fed
     ensures { (R G C o : List ℕ) → Lays (λ d. silent (typed d b)) m (bench_of R G C line.old o) result
         (bench_of R G C line.new o) }
 {
-    let n = m.typed;
-    if n <= desk_marks::MOST_TYPED {
-        line[n] = b;
+    if m.typed <= desk_marks::MOST_TYPED {
+        line[m.typed] = b;
         return Fed {
             marks: Marks {
-                lines: m.lines,
-                typed: n + 1,
-                collected: m.collected,
-                guide: m.guide,
-                register: m.register,
+                typed: m.typed + 1,
+                ..m
             },
             said: 0,
         };
@@ -49,100 +44,38 @@ fn type_byte(m: Marks, line: &mut [u8], b: u8) -> Fed
     Fed { marks: m, said: 0 }
 }
 
-// A line that is whole bytes, as a frame.
-fn read_line(
-    m: Marks,
-    register: &mut [u8],
-    guide: &mut [u8],
-    collection: &mut [u8],
-    out: &mut [u8],
-    line: &[u8],
-) -> Fed
-    requires { (is_readable line.now ≡ true)
-        × (((m.collected ≤ most_collected) × (most_collected ≤ length collection.old)) × (most_said ≤ length out.old)) }
-    ensures { (l : List ℕ)
-        → Lays (λ d. framed d (get_or (bytes_in line.now) 0 0) (drop 1 (bytes_in line.now))) m
-        (bench_of register.old guide.old collection.old l out.old) result
-        (bench_of register.new guide.new collection.new l out.new) }
-{
-    let mut bytes = [0; MOST_BYTES];
-    let k = line.len() / 2;
-    hexadecimal::decode(line, &mut bytes[0..k]);
-    frames::framed(
-        m,
-        &mut register[..],
-        &mut guide[..],
-        &mut collection[..],
-        &mut out[..],
-        bytes[0],
-        &bytes[1..k],
-    )
-}
+impl Bench<'_> {
+    // A line that is whole bytes, as a frame.
+    fn read_line(&mut self, line: &[u8]) -> usize
+        requires { is_readable line.now ≡ true }
+        ensures same { IsSameLoan self.old self.new }
+        ensures acts { (l : List ℕ)
+            → Acts (λ d. framed d (get_or (bytes_in line.now) 0 0) (drop 1 (bytes_in line.now)))
+            self.old l self.new l result }
+    {
+        let mut bytes = [0; MOST_BYTES];
+        let k = line.len() / 2;
+        hexadecimal::decode(line, &mut bytes[..k]);
+        self.act(Frame::of(bytes[0], &bytes[1..k]))
+    }
 
-// The line is counted, and read.
-fn end_line(
-    m: Marks,
-    register: &mut [u8],
-    guide: &mut [u8],
-    collection: &mut [u8],
-    line: &[u8],
-    out: &mut [u8],
-) -> Fed
-    requires { (has_room m (length collection.old) (length line.now) (length out.old) ≡ true) × (m.lines < most_lines) }
-    ensures { Laid line_ended m
-        (bench_of register.old guide.old collection.old line.now out.old) result
-        (bench_of register.new guide.new collection.new line.now out.new) }
-{
-    let n = m.typed;
-    let next = Marks {
-        lines: m.lines + 1,
-        typed: 0,
-        collected: m.collected,
-        guide: m.guide,
-        register: m.register,
-    };
-    if is_readable(&line[0..n]) {
-        return read_line(
-            next,
-            &mut register[..],
-            &mut guide[..],
-            &mut collection[..],
-            &mut out[..],
-            &line[0..n],
-        );
+    // The line is counted, and read.
+    fn end_line(&mut self, line: &[u8]) -> usize
+        requires { (most_typed + 1 ≤ length line.now) × (self.old.marks.lines < most_lines) }
+        ensures same { IsSameLoan self.old self.new }
+        ensures acts { Acts line_ended self.old line.now self.new line.now result }
+    {
+        let typed = &line[..self.marks.typed];
+        self.marks = Marks {
+            lines: self.marks.lines + 1,
+            typed: 0,
+            ..self.marks
+        };
+        if is_readable(typed) {
+            return self.read_line(typed);
+        }
+        self.unread()
     }
-    frames::unread(next, &mut out[..])
-}
-
-// A byte of input, where there is room.
-fn feed_ready(
-    m: Marks,
-    register: &mut [u8],
-    guide: &mut [u8],
-    collection: &mut [u8],
-    line: &mut [u8],
-    out: &mut [u8],
-    b: u8,
-) -> Fed
-    requires { has_room m (length collection.old) (length line.old) (length out.old) ≡ true }
-    ensures { Laid (λ d. fed d b) m
-        (bench_of register.old guide.old collection.old line.old out.old) result
-        (bench_of register.new guide.new collection.new line.new out.new) }
-{
-    if desk_marks::has_stopped(m) {
-        return Fed { marks: m, said: 0 };
-    }
-    if b == b'\n' {
-        return end_line(
-            m,
-            &mut register[..],
-            &mut guide[..],
-            &mut collection[..],
-            &line[..],
-            &mut out[..],
-        );
-    }
-    type_byte(m, &mut line[..], b)
 }
 
 // A byte of input.
@@ -159,51 +92,30 @@ pub fn feed(
         (bench_of register.old guide.old collection.old line.old out.old) result
         (bench_of register.new guide.new collection.new line.new out.new) }
 {
-    if desk_marks::is_ready(m, collection.len(), line.len(), out.len()) {
-        return feed_ready(
-            m,
-            &mut register[..],
-            &mut guide[..],
-            &mut collection[..],
-            &mut line[..],
-            &mut out[..],
-            b,
-        );
+    if !desk_marks::is_ready(m, collection.len(), line.len(), out.len()) {
+        return Fed { marks: m, said: 0 };
     }
-    Fed { marks: m, said: 0 }
-}
-
-// The end of input, where there is room: the last line may lack its newline.
-fn finish_ready(
-    m: Marks,
-    register: &mut [u8],
-    guide: &mut [u8],
-    collection: &mut [u8],
-    line: &[u8],
-    out: &mut [u8],
-) -> Fed
-    requires { has_room m (length collection.old) (length line.now) (length out.old) ≡ true }
-    ensures { Laid ended m
-        (bench_of register.old guide.old collection.old line.now out.old) result
-        (bench_of register.new guide.new collection.new line.now out.new) }
-{
     if desk_marks::has_stopped(m) {
         return Fed { marks: m, said: 0 };
     }
-    if m.typed == 0 {
-        return Fed { marks: m, said: 0 };
+    if b != b'\n' {
+        return type_byte(m, line, b);
     }
-    end_line(
-        m,
-        &mut register[..],
-        &mut guide[..],
-        &mut collection[..],
-        line,
-        &mut out[..],
-    )
+    let mut bench = Bench {
+        marks: m,
+        register,
+        guide,
+        collection,
+        out,
+    };
+    let said = bench.end_line(line);
+    Fed {
+        marks: bench.marks,
+        said,
+    }
 }
 
-// The end of input.
+// The end of input: the last line may lack its newline.
 pub fn finish(
     m: Marks,
     register: &mut [u8],
@@ -216,15 +128,25 @@ pub fn finish(
         (bench_of register.old guide.old collection.old line.now out.old) result
         (bench_of register.new guide.new collection.new line.now out.new) }
 {
-    if desk_marks::is_ready(m, collection.len(), line.len(), out.len()) {
-        return finish_ready(
-            m,
-            &mut register[..],
-            &mut guide[..],
-            &mut collection[..],
-            line,
-            &mut out[..],
-        );
+    if !desk_marks::is_ready(m, collection.len(), line.len(), out.len()) {
+        return Fed { marks: m, said: 0 };
     }
-    Fed { marks: m, said: 0 }
+    if desk_marks::has_stopped(m) {
+        return Fed { marks: m, said: 0 };
+    }
+    if m.typed == 0 {
+        return Fed { marks: m, said: 0 };
+    }
+    let mut bench = Bench {
+        marks: m,
+        register,
+        guide,
+        collection,
+        out,
+    };
+    let said = bench.end_line(line);
+    Fed {
+        marks: bench.marks,
+        said,
+    }
 }

@@ -1,159 +1,123 @@
-// What a frame does. Each promise is that of the definition, whatever the lent bytes are that it does not get.
-ghost use Rattle.std.specs.Prelude.{List, ℕ, ◌≤◌, length};
-ghost use Rattle.desk_rules.specs.Desk.{most_collected, unread, collecting, taking_guide, taking_data, looking, framed};
-ghost use Rattle.desk_rules.specs.Served.{bench_of, most_said, Lays};
+// What a frame does. Each promise is that of the definition, whatever the line is.
+//
+// A part that is only read is lent by `&mut *` all the same: of what a field lends as `&`, a proof knows no byte afterwards.
+ghost use Rattle.std.specs.Prelude.{◌≡◌, List, ℕ};
+ghost use Rattle.desk_rules.specs.Desk.{Desk, unread, collecting, taking_guide, taking_data, looking, framed};
+ghost use Rattle.desk_lines.specs.Acts.{acted, IsSameLoan, Acts};
 
+use crate::bench::Bench;
 use crate::say;
-use desk_rules::{Fed, Marks};
 use versions::Version;
-
-// The codes of the frames that the desk reads.
-const COLLECT: u8 = 1;
-
-const TAKE_GUIDE: u8 = 2;
-
-const TAKE_DATA: u8 = 3;
-
-const LOOK: u8 = 4;
 
 const MOST_ANSWERS: usize = 325;
 
-// A line that can't be read or collected does nothing else.
-pub fn unread(m: Marks, out: &mut [u8]) -> Fed
-    requires { most_said ≤ length out.old }
-    ensures { (R G C l : List ℕ) → Lays unread m (bench_of R G C l out.old) result (bench_of R G C l out.new) }
-{
-    let said = say::unread(&mut out[..], m.lines);
-    Fed { marks: m, said }
+// A frame that the desk reads.
+pub enum Frame<'a> {
+    Collect(&'a [u8]),
+    TakeGuide,
+    TakeData,
+    Look(&'a [u8]),
 }
 
-// 01: the bytes are collected, if there is room for them.
-fn collect(m: Marks, collection: &mut [u8], out: &mut [u8], bytes: &[u8]) -> Fed
-    requires { ((m.collected ≤ most_collected) × (most_collected ≤ length collection.old)) × (most_said ≤ length out.old) }
-    ensures { (R G l : List ℕ) → Lays (λ d. collecting d bytes.now) m
-        (bench_of R G collection.old l out.old) result
-        (bench_of R G collection.new l out.new) }
-{
-    let a = m.collected;
-    let e = a + bytes.len();
-    if e <= desk_marks::MOST_COLLECTED {
-        text::put(&mut collection[..], a, bytes);
-        return Fed {
-            marks: Marks {
-                lines: m.lines,
-                typed: m.typed,
-                collected: e,
-                guide: m.guide,
-                register: m.register,
-            },
-            said: 0,
-        };
+impl<'a> Frame<'a> {
+    // By its code and the bytes behind it. A take has none.
+    #[tactic(auto, unfolding(desk_rules::specs::Desk::framed))]
+    pub fn of(code: u8, bytes: &'a [u8]) -> Option<Frame<'a>>
+        ensures { (d : Desk) → framed d code bytes.now ≡ acted d result }
+    {
+        match code {
+            1 => Some(Frame::Collect(bytes)),
+            2 if bytes.is_empty() => Some(Frame::TakeGuide),
+            3 if bytes.is_empty() => Some(Frame::TakeData),
+            4 => Some(Frame::Look(bytes)),
+            _ => None,
+        }
     }
-    unread(m, &mut out[..])
 }
 
-// 02: the collection is taken as a guide file, and emptied.
-fn apply_guide(
-    m: Marks,
-    register: &[u8],
-    guide: &mut [u8],
-    collection: &[u8],
-    out: &mut [u8],
-) -> Fed
-    requires { (m.collected ≤ length collection.now) × (most_said ≤ length out.old) }
-    ensures { (l : List ℕ) → Lays taking_guide m
-        (bench_of register.now guide.old collection.now l out.old) result
-        (bench_of register.now guide.new collection.now l out.new) }
-{
-    let mut answers = [0; MOST_ANSWERS];
-    let n = m.collected;
-    let t = taking::take::apply_guide(
-        register,
-        &mut guide[..],
-        &collection[0..n],
-        &mut answers,
-        m.guide,
-    );
-    let said = say::taken(&mut out[..], t, &answers);
-    let marks = desk_marks::emptied(m, t.last, m.register);
-    Fed { marks, said }
-}
-
-// 03: the collection is taken as a data file of Version 2, and emptied.
-fn apply_data(m: Marks, register: &mut [u8], guide: &[u8], collection: &[u8], out: &mut [u8]) -> Fed
-    requires { (m.collected ≤ length collection.now) × (most_said ≤ length out.old) }
-    ensures { (l : List ℕ) → Lays taking_data m
-        (bench_of register.old guide.now collection.now l out.old) result
-        (bench_of register.new guide.now collection.now l out.new) }
-{
-    let mut answers = [0; MOST_ANSWERS];
-    let n = m.collected;
-    let t = taking::take::apply_data(
-        Version::Two,
-        &mut register[..],
-        guide,
-        &collection[0..n],
-        &mut answers,
-        m.register,
-    );
-    let said = say::taken(&mut out[..], t, &answers);
-    let marks = desk_marks::emptied(m, m.guide, t.last);
-    Fed { marks, said }
-}
-
-// 04: a number is looked up.
-fn look(m: Marks, register: &[u8], out: &mut [u8], number: &[u8]) -> Fed
-    requires { most_said ≤ length out.old }
-    ensures { (G C l : List ℕ) → Lays (λ d. looking d number.now) m
-        (bench_of register.now G C l out.old) result
-        (bench_of register.now G C l out.new) }
-{
-    let seen = lookup::look(register, number);
-    let said = say::seen(&mut out[..], seen);
-    Fed { marks: m, said }
-}
-
-// A frame: its code, and the bytes behind it.
-pub fn framed(
-    m: Marks,
-    register: &mut [u8],
-    guide: &mut [u8],
-    collection: &mut [u8],
-    out: &mut [u8],
-    code: u8,
-    bytes: &[u8],
-) -> Fed
-    requires { ((m.collected ≤ most_collected) × (most_collected ≤ length collection.old)) × (most_said ≤ length out.old) }
-    ensures { (l : List ℕ) → Lays (λ d. framed d code bytes.now) m
-        (bench_of register.old guide.old collection.old l out.old) result
-        (bench_of register.new guide.new collection.new l out.new) }
-{
-    if code == COLLECT {
-        return collect(m, &mut collection[..], &mut out[..], bytes);
+impl Bench<'_> {
+    // A line that can't be read or collected does nothing else.
+    pub fn unread(&mut self) -> usize
+        ensures same { IsSameLoan self.old self.new }
+        ensures acts { (l : List ℕ) → Acts unread self.old l self.new l result }
+    {
+        say::unread(self.out, self.marks.lines)
     }
-    if code == LOOK {
-        return look(m, &register[..], &mut out[..], bytes);
+
+    // The bytes are collected, if there is room for them.
+    fn collect(&mut self, bytes: &[u8]) -> usize
+        ensures same { IsSameLoan self.old self.new }
+        ensures acts { (l : List ℕ) → Acts (λ d. collecting d bytes.now) self.old l self.new l result }
+    {
+        let collected = self.marks.collected + bytes.len();
+        if collected <= desk_marks::MOST_COLLECTED {
+            text::put(self.collection, self.marks.collected, bytes);
+            self.marks.collected = collected;
+            return 0;
+        }
+        self.unread()
     }
-    if bytes.len() != 0 {
-        return unread(m, &mut out[..]);
-    }
-    if code == TAKE_GUIDE {
-        return apply_guide(
-            m,
-            &register[..],
-            &mut guide[..],
-            &collection[..],
-            &mut out[..],
+
+    // The collection is taken as a guide file, and emptied.
+    fn apply_guide(&mut self) -> usize
+        ensures same { IsSameLoan self.old self.new }
+        ensures acts { (l : List ℕ) → Acts taking_guide self.old l self.new l result }
+    {
+        let register: &[u8] = &mut *self.register;
+        let collection: &[u8] = &mut *self.collection;
+        let mut answers = [0; MOST_ANSWERS];
+        let taken = taking::take::apply_guide(
+            register,
+            self.guide,
+            &collection[..self.marks.collected],
+            &mut answers,
+            self.marks.guide,
         );
+        self.marks = desk_marks::emptied(self.marks, taken.last, self.marks.register);
+        say::taken(self.out, taken, &answers)
     }
-    if code == TAKE_DATA {
-        return apply_data(
-            m,
-            &mut register[..],
-            &guide[..],
-            &collection[..],
-            &mut out[..],
+
+    // The collection is taken as a data file of Version 2, and emptied.
+    fn apply_data(&mut self) -> usize
+        ensures same { IsSameLoan self.old self.new }
+        ensures acts { (l : List ℕ) → Acts taking_data self.old l self.new l result }
+    {
+        let guide: &[u8] = &mut *self.guide;
+        let collection: &[u8] = &mut *self.collection;
+        let mut answers = [0; MOST_ANSWERS];
+        let taken = taking::take::apply_data(
+            Version::Two,
+            self.register,
+            guide,
+            &collection[..self.marks.collected],
+            &mut answers,
+            self.marks.register,
         );
+        self.marks = desk_marks::emptied(self.marks, self.marks.guide, taken.last);
+        say::taken(self.out, taken, &answers)
     }
-    unread(m, &mut out[..])
+
+    // A number is looked up.
+    fn look(&mut self, number: &[u8]) -> usize
+        ensures same { IsSameLoan self.old self.new }
+        ensures acts { (l : List ℕ) → Acts (λ d. looking d number.now) self.old l self.new l result }
+    {
+        let register: &[u8] = &mut *self.register;
+        let seen = lookup::look(register, number);
+        say::seen(self.out, seen)
+    }
+
+    // What is no frame can't be read.
+    pub fn act(&mut self, frame: Option<Frame>) -> usize
+        ensures same { IsSameLoan self.old self.new }
+        ensures acts { (l : List ℕ) → Acts (λ d. acted d frame.entry) self.old l self.new l result }
+    {
+        match frame {
+            Some(Frame::Collect(bytes)) => self.collect(bytes),
+            Some(Frame::TakeGuide) => self.apply_guide(),
+            Some(Frame::TakeData) => self.apply_data(),
+            Some(Frame::Look(number)) => self.look(number),
+            None => self.unread(),
+        }
+    }
 }

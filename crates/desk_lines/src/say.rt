@@ -6,7 +6,7 @@ ghost use Rattle.desk_rules.specs.Served.{Writes, most_said};
 
 use rules::{Seen, Taken};
 
-// The codes of the frames that the desk writes.
+// The codes of the frames that the desk writes. Numbers, and no enum: each is written in one place and never told from another.
 const ANSWER: u8 = 0xa0;
 
 const COUNTS: u8 = 0xa1;
@@ -29,7 +29,7 @@ fn line(out: &mut [u8], frame: &[u8]) -> usize
     ensures { Writes (line_of frame.now) out.old result out.new }
 {
     let n = 2 * frame.len() + 1;
-    hexadecimal::encode(frame, &mut out[0..n]);
+    hexadecimal::encode(frame, &mut out[..n]);
     n
 }
 
@@ -39,7 +39,7 @@ pub fn unread(out: &mut [u8], n: u32) -> usize
     ensures { Writes (unread_said n) out.old result out.new }
 {
     let frame = [UNREAD, hexadecimal::high(n), hexadecimal::low(n)];
-    line(&mut out[..], &frame)
+    line(out, &frame)
 }
 
 // The answers to the first n records.
@@ -47,19 +47,16 @@ fn answers(out: &mut [u8], given: &[u8], n: usize) -> usize
     requires { ((n ≤ most_answers) × (n ≤ length given.now)) × (9 * n ≤ length out.old) }
     ensures { Writes (answers_said given.now n) out.old result out.new }
 {
-    let mut i: usize = 0;
-    while i < n {
+    for (i, answer) in given[..n].iter().enumerate() {
         let place = (i + 1) as u32;
         let frame = [
             ANSWER,
             hexadecimal::high(place),
             hexadecimal::low(place),
-            given[i],
+            *answer,
         ];
-        let a = ANSWER_LINE * i;
-        let e = a + ANSWER_LINE;
-        hexadecimal::encode(&frame, &mut out[a..e]);
-        i += 1;
+        let at = ANSWER_LINE * i;
+        hexadecimal::encode(&frame, &mut out[at..at + ANSWER_LINE]);
     }
     ANSWER_LINE * n
 }
@@ -68,34 +65,29 @@ fn counts(out: &mut [u8], t: Taken) -> usize
     requires { 11 ≤ length out.old }
     ensures { Writes (counts_said t) out.old result out.new }
 {
-    let done = t.done;
-    let undone = t.undone;
     let frame = [
         COUNTS,
-        hexadecimal::high(done),
-        hexadecimal::low(done),
-        hexadecimal::high(undone),
-        hexadecimal::low(undone),
+        hexadecimal::high(t.done),
+        hexadecimal::low(t.done),
+        hexadecimal::high(t.undone),
+        hexadecimal::low(t.undone),
     ];
-    line(&mut out[..], &frame)
+    line(out, &frame)
 }
 
 fn refused(out: &mut [u8], t: Taken) -> usize
     requires { (t.refusal ≤ 255) × (most_said ≤ length out.old) }
     ensures { Writes (refusal_said t) out.old result out.new }
 {
-    let refusal = t.refusal;
-    let place = t.place;
-    let position = t.position;
     let frame = [
         REFUSAL,
-        hexadecimal::low(refusal),
-        hexadecimal::high(place),
-        hexadecimal::low(place),
-        hexadecimal::high(position),
-        hexadecimal::low(position),
+        hexadecimal::low(t.refusal),
+        hexadecimal::high(t.place),
+        hexadecimal::low(t.place),
+        hexadecimal::high(t.position),
+        hexadecimal::low(t.position),
     ];
-    line(&mut out[..], &frame)
+    line(out, &frame)
 }
 
 // What came of a take.
@@ -104,10 +96,10 @@ pub fn taken(out: &mut [u8], t: Taken, given: &[u8]) -> usize
     ensures { Writes (take_said t given.now) out.old result out.new }
 {
     if t.refusal != 0 {
-        return refused(&mut out[..], t);
+        return refused(out, t);
     }
     let n = t.records as usize;
-    let at = answers(&mut out[..], given, n);
+    let at = answers(out, given, n);
     at + counts(&mut out[at..], t)
 }
 
@@ -117,16 +109,13 @@ pub fn seen(out: &mut [u8], s: Seen) -> usize
     ensures { Writes (look_said s) out.old result out.new }
 {
     if s.refusal != 0 {
-        let frame = [SEEN, NO_STATE, 0, 0];
-        return line(&mut out[..], &frame);
+        return line(out, &[SEEN, NO_STATE, 0, 0]);
     }
-    let state = s.state;
-    let looked = s.looked;
     let frame = [
         SEEN,
-        hexadecimal::low(state),
-        hexadecimal::high(looked),
-        hexadecimal::low(looked),
+        hexadecimal::low(s.state),
+        hexadecimal::high(s.looked),
+        hexadecimal::low(s.looked),
     ];
-    line(&mut out[..], &frame)
+    line(out, &frame)
 }

@@ -23,16 +23,11 @@ pub const LINE_SIZE: usize = MOST_TYPED + 1;
 pub const OUT_SIZE: usize = 2936;
 
 // The marks of an empty desk.
+#[tactic(auto, unfolding(desk_rules::specs::Served::marks_of, desk_rules::specs::Desk::empty_desk))]
 pub fn empty() -> Marks
     ensures { result ≡ marks_of empty_desk }
 {
-    Marks {
-        lines: 0,
-        typed: 0,
-        collected: 0,
-        guide: 0,
-        register: 0,
-    }
+    Marks::default()
 }
 
 // Whether the last line has ended that is answered.
@@ -43,6 +38,7 @@ pub fn has_stopped(m: Marks) -> bool
 }
 
 // There is room for all that a desk may hold and say, and the marks lie within it.
+#[tactic(auto, unfolding(desk_rules::specs::Served::has_room))]
 pub fn is_ready(m: Marks, collection: usize, line: usize, out: usize) -> bool
     ensures { result ≡ has_room m collection line out }
 {
@@ -55,10 +51,9 @@ pub fn emptied(m: Marks, guide: u32, register: u32) -> Marks
     ensures { result ≡ record { lines = m.lines; typed = m.typed; collected = 0; guide = guide; register = register } }
 {
     Marks {
-        lines: m.lines,
-        typed: m.typed,
         collected: 0, // "A take empties the collection"
         guide,
         register,
+        ..m
     }
 }

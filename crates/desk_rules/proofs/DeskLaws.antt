@@ -2,13 +2,13 @@
 -- Assumes nothing.
 use mathlib.Core.Path.{◌≡◌, ◌∙◌, refl, sym}
 use mathlib.Core.Logic.{◌≢◌}
-use mathlib.Core.Bool.{Bool, true, false, ◌&&◌, cond}
+use mathlib.Core.Bool.{Bool, true, false, ◌&&◌}
 use mathlib.Core.List.{List, ◌++◌, append-nil, append_assoc}
 use Prim.Native.Nat.{ℕ, ◌+◌, ◌≤◌, ◌<◌}
 use native.Mathlib.Omega.{arith}
 use native.Mathlib.Numerals.{add-one}
 use native.Mathlib.Decide.{dec_le}
-use lib.Dec.{leb, eqb}
+use lib.Dec.{leb}
 use lib.ListN.{length, take, drop, get_or, set, length-append, take-append-drop, replicate}
 use lib.Seq.{length-take-le, take_all, drop-length, append_snoc, set_split}
 use borrow.Author.Tests.{leb-true, leb-false, le-leb, lt-leb, eq-eqb, ne_eqb}
@@ -20,7 +20,7 @@ use Rattle.rules.specs.Takes.{TakesData, TakesGuide}
 use Rattle.desk_rules.proofs.TakenLaws.{guide_register, data_guide}
 use Rattle.desk_rules.specs.declared.Marks.{Marks}
 use Rattle.desk_rules.specs.Hex.{bytes_in}
-use Rattle.desk_rules.specs.Desk.{Desk, Reply, most_collected, most_typed, most_lines, most_answers, silent, unread, is_readable, line_read, next_line, line_ended, typed, stops_after, fed, ended, take_said, collecting, taking_guide, taking_data, looking, framed}
+use Rattle.desk_rules.specs.Desk.{Desk, Reply, most_collected, most_typed, most_lines, most_answers, silent, unread, is_readable, line_read, next_line, line_ended, typed, stops_after, fed, ended, take_said, collecting, taking_guide, taking_data, framed}
 use Rattle.desk_rules.specs.Served.{Bench, bench_of, most_said, has_room, is_ready, desk_of, marks_of, over, laid_out, served, unserved, Holds, Laid, Writes}
 
 -- ---- room
@@ -252,38 +252,3 @@ module _ (act : Desk → Reply) (m : Marks) (b : Bench) {v : Bool} (e : v ≡ is
   pub served_not : v ≡ false → served act m b ≡ unserved m b
   unfolding served
   served_not t = rw (← e, t)
-
--- ---- the codes
-
-module _ (d : Desk) (code : ℕ) (bytes : List ℕ) where
-  pub framed_collect : code ≡ 1 → framed d code bytes ≡ collecting d bytes
-  unfolding framed
-  framed_collect e = rw (eq-eqb code 1 e)
-
-  pub framed_look : code ≡ 4 → framed d code bytes ≡ looking d bytes
-  unfolding framed
-  framed_look e = rw e
-
-  pub framed_guide : code ≡ 2 → length bytes ≡ 0 → framed d code bytes ≡ taking_guide d
-  unfolding framed
-  framed_guide e z = rw (e, z)
-
-  pub framed_data : code ≡ 3 → length bytes ≡ 0 → framed d code bytes ≡ taking_data d
-  unfolding framed
-  framed_data e z = rw (e, z)
-
-  -- bytes behind 02 and 03
-  pub framed_more : code ≢ 1 → code ≢ 4 → length bytes ≢ 0 → framed d code bytes ≡ unread d
-  unfolding framed
-  framed_more a b z =
-      rw (ne_eqb code 1 a, ne_eqb code 4 b, ne_eqb (length bytes) 0 z) (go (eqb code 2) (eqb code 3))
-    where
-      go : (p q : Bool) → cond p (unread d) (cond q (unread d) (unread d)) ≡ unread d
-      go true q = refl
-      go false true = refl
-      go false false = refl
-
-  -- another code
-  pub framed_other : code ≢ 1 → code ≢ 4 → code ≢ 2 → code ≢ 3 → framed d code bytes ≡ unread d
-  unfolding framed
-  framed_other a b e f = rw (ne_eqb code 1 a, ne_eqb code 2 e, ne_eqb code 3 f, ne_eqb code 4 b)

@@ -1,5 +1,7 @@
 -- The files that an input takes: each is taken by the reply to a byte, or to the end of input, and what a run of them accepts is what
 -- was answered 0. Assumes nothing.
+use Rattle.rules.specs.declared.Refusal.{Refusal}
+use Rattle.std.specs.Prelude.{Result, Ok, Err}
 use mathlib.Core.Path.{◌≡◌, ◌∙◌, refl, sym, ap}
 use mathlib.Core.Bool.{Bool, true, false, cond}
 use mathlib.Core.List.{List, [], ◌∷◌, ◌++◌}
@@ -10,8 +12,6 @@ use lib.ListN.{length, drop, get_or, get_or-append}
 use borrow.Author.Tests.{eqb-true, ne_eqb}
 use Rattle.layout.specs.declared.frame.Header.{Header}
 use Rattle.layout.specs.Counters.{given_cycle}
-use Rattle.rules.specs.declared.Checked.{Checked}
-use Rattle.rules.specs.declared.Checked.TheVariants.{Good, Refused}
 use Rattle.rules.specs.Takes.{Stores, lines_in, checked, answers_to, applied_file}
 use Rattle.rules.specs.History.{Item, history_to}
 use Rattle.rules.specs.Demands.{File, Office, taking, run}
@@ -103,12 +103,12 @@ taking_done : (f : File) (o : Office) → (taking f o).history ≡ done_of f (ou
 unfolding taking done_of applied_file
 taking_done f o = go (checked f.kind o.stores f.bytes (length f.answers) (given_cycle f.last)) refl
   where
-    go : (c : Checked) → checked f.kind o.stores f.bytes (length f.answers) (given_cycle f.last) ≡ c
+    go : (c : Result Header Refusal) → checked f.kind o.stores f.bytes (length f.answers) (given_cycle f.last) ≡ c
         → (taking f o).history ≡ done_of f (outcome f o.stores) o.history
-    go (Good h) e =
+    go (Ok h) e =
         rw (good_history f.kind o.stores f.bytes f.answers f.last h e o.history, good_is f.kind o.stores f.bytes f.answers f.last h e)
         (done_lines f h o.stores _ o.history (lines_in f.kind f.bytes) (lines_in f.kind f.bytes) (omega arith))
-    go (Refused r) e =
+    go (Err r) e =
         let n = refused_number f.kind o.stores f.bytes f.answers f.last r e in
         rw (refused_history f.kind o.stores f.bytes f.answers f.last r e o.history, ne_eqb (outcome f o.stores).result.refusal 0 (λ z. omega arith))
 

@@ -1,53 +1,25 @@
--- Hexadecimal: what a loop over the pairs of a line cites, and where each byte of a line stands.
+-- Hexadecimal: where each byte of a line stands, and each character of the line of a frame.
 -- Assumes nothing.
 use mathlib.Core.Path.{◌≡◌, ◌∙◌, refl, sym}
 use mathlib.Core.Logic.{◌≢◌}
-use mathlib.Core.Bool.{Bool, true, false, ◌&&◌}
+use mathlib.Core.Bool.{Bool, true, ◌&&◌}
 use mathlib.Core.List.{List, [], ◌∷◌, ◌++◌}
 use Prim.Native.Nat.{ℕ, zero, suc, ◌+◌, ◌*◌, ◌/◌, ◌%◌, ◌≤◌, ◌<◌}
 use native.Mathlib.Omega.{arith}
-use native.Mathlib.Decide.{ℕ_discrete}
-use lib.Dec.{leb, eqb}
+use lib.Dec.{leb}
 use lib.ListN.{length, take, drop, get_or, set}
 use borrow.Author.Tests.{leb-true, eq-eqb, ne_eqb}
 use Rattle.text.specs.Text.{in_range}
-use Rattle.text.proofs.Laws.{and_left, and_right, turn, ended}
+use Rattle.text.proofs.Laws.{and_left, and_right}
 use Rattle.desk_rules.specs.Desk.{most_typed, is_readable}
-use Rattle.desk_rules.proofs.OverLaws.{front_length, front_more, front_all}
-use Rattle.desk_rules.specs.Hex.{is_hex_digit, hex_value, is_hex, bytes_in, hex_digit, line_of, decoded, encoded}
+use Rattle.desk_rules.proofs.OverLaws.{front_more, front_all}
+use Rattle.desk_rules.specs.Hex.{hex_value, is_hex, bytes_in, hex_digit, line_of, decoded, encoded}
 
 -- ---- a digit
 
 pub range_in : (low b high : ℕ) → in_range low b high ≡ true → (low ≤ b) × (b ≤ high)
 range_in low b high t =
     (leb-true low b (and_left (leb low b) (leb b high) t), leb-true b high (and_right (leb low b) (leb b high) t))
-
--- ---- whether a line is whole bytes: its pairs from i on
-
-module _ (s : List ℕ) (i : ℕ) {v : Bool} (inv : is_hex (drop i s) ≡ v) where
-  pair_at : i + 1 < length s → ((is_hex_digit (get_or s i 0) && is_hex_digit (get_or s (i + 1) 0)) && is_hex (drop (i + 2) s)) ≡ v
-  pair_at h =
-      let e : i + 2 ≡ i + 1 + 1 = omega arith in
-      rw e (turn (λ x. is_hex (get_or s i 0 ∷ x)) s (i + 1) h (turn is_hex s i (omega arith) inv))
-
-  -- p and q are the tests of the pair
-  module _ (p q : Bool) (e : p ≡ is_hex_digit (get_or s i 0)) (f : q ≡ is_hex_digit (get_or s (i + 1) 0)) (h : i + 1 < length s) where
-    pair_is : ((p && q) && is_hex (drop (i + 2) s)) ≡ v
-    pair_is = rw (e, f) (pair_at h)
-
-    pub hex_more : p && q ≡ true → is_hex (drop (i + 2) s) ≡ v
-    hex_more t = rw t at pair_is
-
-    pub hex_not : p && q ≡ false → false ≡ v
-    hex_not t = rw t at pair_is
-
-  pub hex_end : i ≤ length s → length s ≤ i + 1 → eqb i (length s) ≡ v
-  hex_end k l = go (ℕ_discrete i (length s))
-    where
-      go : Dec (i ≡ length s) → eqb i (length s) ≡ v
-      go (yes e) = rw (eq-eqb i (length s) e) (ended is_hex s i (omega arith) inv)
-      go (no n) = rw (ne_eqb i (length s) n)
-          (ended (λ x. is_hex (get_or s i 0 ∷ x)) s (i + 1) l (turn is_hex s i (omega arith) inv))
 
 -- a line that is whole bytes, and not empty, has two characters
 pub hex_two : (s : List ℕ) → is_hex s ≡ true → 1 ≤ length s → 2 ≤ length s
@@ -112,9 +84,6 @@ line_last (b ∷ s) =
 -- s has the first i bytes of the frame, in the room for its line
 module _ (frame old : List ℕ) (room : length old ≡ 2 * length frame + 1) (i : ℕ) {s : List ℕ}
     (inv : s ≡ take (2 * i) (line_of frame) ++ drop (2 * i) old) (within : i ≤ length frame) where
-  pub encode_length : length s ≡ length old
-  encode_length = front_length (line_of frame) old (2 * i) inv (omega (arith, line_length frame)) (omega arith)
-
   pub encode_more : (a b : ℕ) → i < length frame → a ≡ hex_digit (get_or frame i 0 / 16) → b ≡ hex_digit (get_or frame i 0 % 16)
       → set (set s (2 * i) a) (2 * i + 1) b ≡ take (2 * (i + 1)) (line_of frame) ++ drop (2 * (i + 1)) old
   encode_more a b h p q =

@@ -6,7 +6,7 @@ use Prim.Native.Nat.{ℕ, ◌+◌, ◌-◌, ◌≤◌, ◌<◌}
 use native.Mathlib.Omega.{arith}
 use native.Mathlib.Numerals.{add-one}
 use native.Mathlib.Nat.{add-sub_cancel_left}
-use lib.ListN.{length, take, drop, get_or, set, length-append, length-take, length-drop, drop_of_length-le, get_or-append}
+use lib.ListN.{length, take, drop, get_or, set, length-append, length-drop, drop_of_length-le, get_or-append}
 use lib.Seq.{length-take-le, take_all, take-suc, set_at, drop-drop, drop-append_seam, take-append_seam, take_at, drop-append-le}
 use Rattle.text.proofs.Laws.{left_at, rest_is}
 use Rattle.desk_rules.specs.Served.{over}
@@ -14,9 +14,6 @@ use Rattle.desk_rules.specs.Served.{over}
 -- ---- the first i bytes are those of `full`, the others those of `old`
 
 module _ (full old : List ℕ) (i : ℕ) {s : List ℕ} (inv : s ≡ take i full ++ drop i old) where
-  pub front_length : i ≤ length full → i ≤ length old → length s ≡ length old
-  front_length h k = ap length inv ∙ simp (length-append, length-take, length-drop) (omega arith)
-
   pub front_more : (v : ℕ) → i < length full → i < length old → v ≡ get_or full i 0 → set s i v ≡ take (i + 1) full ++ drop (i + 1) old
   front_more v h k e =
       let f : take i full ++ (v ∷ []) ≡ take (i + 1) full = rw (add-one i, e) (sym (take-suc full i 0 h)) in
@@ -33,10 +30,6 @@ module _ (full old : List ℕ) (i : ℕ) {s : List ℕ} (inv : s ≡ take i full
       ∙ append-nil full
 
 -- ---- a list at the start of another
-
--- as it comes back from a part of n bytes
-pub over_part : (said out : List ℕ) (n : ℕ) → n ≡ length said → said ++ drop (n - 0) out ≡ over said out
-over_part said out n e = ap (λ x. said ++ drop x out) (let f : n - 0 ≡ length said = omega arith in f)
 
 pub over_length : (said out : List ℕ) → length said ≤ length out → length (over said out) ≡ length out
 over_length said out h = simp (length-append, length-drop) (omega arith)

@@ -1,5 +1,7 @@
 -- How large the refusal and the number of records are that a take answers with.
 -- Assumes nothing.
+use Rattle.rules.specs.declared.Refusal.{Refusal}
+use Rattle.std.specs.Prelude.{Result, Ok, Err}
 use mathlib.Core.Path.{◌≡◌, refl, sym, subst}
 use mathlib.Core.List.{List}
 use Prim.Native.Nat.{ℕ, zero, suc, ◌≤◌}
@@ -11,8 +13,6 @@ use Rattle.layout.specs.Counters.{given_cycle}
 use Rattle.rules.specs.declared.Kind.{Kind}
 use Rattle.versions.specs.declared.Version.TheVariants.{Two}
 use Rattle.rules.specs.declared.Kind.TheVariants.{Data, Guide}
-use Rattle.rules.specs.declared.Checked.{Checked}
-use Rattle.rules.specs.declared.Checked.TheVariants.{Good, Refused}
 use Rattle.rules.specs.declared.Taken.{Taken}
 use Rattle.rules.specs.Takes.{Stores, lines_in, checked, line_applied, after, refused_file, applied_file, taken}
 use Rattle.rules.proofs.GoodLaws.{checked_by, good_room}
@@ -20,9 +20,9 @@ use Rattle.rules.proofs.TakeLaws.{refused_is, good_is, refused_stores, good_stor
 use Rattle.desk_rules.specs.Desk.{most_answers}
 
 -- what the checks say is good, or has a number of one digit
-abbrev OneDigit : Checked → Type 0
-OneDigit (Good h) = Unit {0}
-OneDigit (Refused r) = r.number ≤ 9
+abbrev OneDigit : Result Header Refusal → Type 0
+OneDigit (Ok h) = Unit {0}
+OneDigit (Err r) = r.number ≤ 9
 
 one_digit_lem : (k : Kind) (s : Stores) (f : List ℕ) (room : ℕ) (last : Cycle) → OneDigit (checked k s f room last)
 one_digit_lem k s f room last =
@@ -35,10 +35,10 @@ pub taken_small : (k : Kind) (s : Stores) (f answers : List ℕ) (last : ℕ)
 unfolding refused_file applied_file
 taken_small k s f answers last = go (checked k s f (length answers) (given_cycle last)) refl
   where
-    go : (c : Checked) → checked k s f (length answers) (given_cycle last) ≡ c
+    go : (c : Result Header Refusal) → checked k s f (length answers) (given_cycle last) ≡ c
         → ((taken k s f answers last).result.refusal ≤ 9) × ((taken k s f answers last).result.records ≤ length answers)
-    go (Good h) e = rw (good_is k s f answers last h e) (omega arith, good_room k s f (length answers) (given_cycle last) h e)
-    go (Refused r) e =
+    go (Ok h) e = rw (good_is k s f answers last h e) (omega arith, good_room k s f (length answers) (given_cycle last) h e)
+    go (Err r) e =
         rw (refused_is k s f answers last r e)
         (subst OneDigit e (one_digit_lem k s f (length answers) (given_cycle last)), omega arith)
 
@@ -66,9 +66,9 @@ after_other (Data v) h f s (suc i) = after_other (Data v) h f s i
 taken_other : (k : Kind) (s : Stores) (f answers : List ℕ) (last : ℕ) → other k s ≡ other k (taken k s f answers last).stores
 taken_other k s f answers last = go (checked k s f (length answers) (given_cycle last)) refl
   where
-    go : (c : Checked) → checked k s f (length answers) (given_cycle last) ≡ c → other k s ≡ other k (taken k s f answers last).stores
-    go (Good h) e = rw (good_stores k s f answers last h e) (sym (after_other k h f s (lines_in k f)))
-    go (Refused r) e = rw (refused_stores k s f answers last r e)
+    go : (c : Result Header Refusal) → checked k s f (length answers) (given_cycle last) ≡ c → other k s ≡ other k (taken k s f answers last).stores
+    go (Ok h) e = rw (good_stores k s f answers last h e) (sym (after_other k h f s (lines_in k f)))
+    go (Err r) e = rw (refused_stores k s f answers last r e)
 
 pub guide_register : (s : Stores) (f answers : List ℕ) (last : ℕ) → s.register ≡ (taken Guide s f answers last).stores.register
 guide_register s f answers last = taken_other Guide s f answers last

@@ -1,4 +1,5 @@
 -- The cycle and the record count that are written are read back. Assumes nothing.
+use Rattle.std.specs.Prelude.{Some}
 use mathlib.Core.Path.{◌≡◌, refl, ◌∙◌}
 use mathlib.Core.Bool.{Bool, true, false, ◌||◌}
 use mathlib.Core.List.{◌++◌, append-nil}
@@ -12,12 +13,10 @@ use borrow.Author.Tests.{le-leb, le-ltb}
 use Rattle.text.specs.declared.Class.TheVariants.{Space}
 use Rattle.text.specs.Text.{run_of, spaces, digits, width, width_in, among_spaces, left_digits, right_digits}
 use Rattle.text.proofs.DigitLaws.{blank_spaces, run_append, no_spaces, digits_all, spelled_back, width_some, width_holds, width_fits, width_first}
-use Rattle.layout.specs.declared.counter.Turn.TheVariants.{Cycle as a_cycle}
-use Rattle.layout.specs.declared.counter.Tally.TheVariants.{Count as a_count}
 use Rattle.layout.specs.Counters.{cycle_of, plain_digits, whole_count, count_of}
 
 -- a cycle, left-justified
-pub cycle_back : (c : ℕ) → 1 ≤ c → c ≤ 999999 → cycle_of (left_digits c (spaces 6)) ≡ a_cycle (record { 0 = c })
+pub cycle_back : (c : ℕ) → 1 ≤ c → c ≤ 999999 → cycle_of (left_digits c (spaces 6)) ≡ Some (record { 0 = c })
 unfolding cycle_of left_digits among_spaces width
 cycle_back c a b =
     let w : width_in 9 c ≤ 6 = width_fits 9 c 5 (omega arith) (omega arith) in
@@ -40,7 +39,7 @@ plain (suc n) h =
     go false = refl
 
 -- they are read back
-whole_back : (n : ℕ) → n ≤ 999999999 → whole_count (digits (width_in 9 n) n) ≡ a_count (record { 0 = n })
+whole_back : (n : ℕ) → n ≤ 999999999 → whole_count (digits (width_in 9 n) n) ≡ Some (record { 0 = n })
 unfolding whole_count
 whole_back n h =
     let w : width_in 9 n ≤ 9 = width_fits 9 n 8 (omega arith) (omega arith) in
@@ -52,7 +51,7 @@ whole_back n h =
     )
 
 -- a count, right-justified
-pub count_back : (n : ℕ) → n ≤ 999999999 → count_of (right_digits n (spaces 9)) ≡ a_count (record { 0 = n })
+pub count_back : (n : ℕ) → n ≤ 999999999 → count_of (right_digits n (spaces 9)) ≡ Some (record { 0 = n })
 unfolding count_of right_digits among_spaces width
 count_back n h =
     let w : width_in 9 n ≤ 9 = width_fits 9 n 8 (omega arith) (omega arith) in

@@ -1,4 +1,4 @@
--- Turns of the loop that walks the fields of a table, three numbers at a time, and what a whole field and a kept rule say.
+-- Steps of the walk over the fields of a table, three numbers at a time, and what a whole field says.
 -- Assumes nothing.
 use mathlib.Core.Path.{◌≡◌, ◌∙◌, refl, sym, ap}
 use mathlib.Core.Bool.{Bool, true, false}
@@ -10,12 +10,11 @@ use lib.ListN.{length, drop, get_or, length-take, length-drop}
 use borrow.Author.Tests.{eqb-true, eq-eqb, ne_eqb}
 use Rattle.text.specs.declared.Class.TheVariants.{Printable}
 use Rattle.text.specs.Text.{all_in, part}
-use Rattle.text.proofs.Laws.{left_at, and_left, and_right}
+use Rattle.text.proofs.Laws.{left_at, and_left}
 use Rattle.text.proofs.PartLaws.{all_part}
-use Rattle.layout.specs.Tables.{house, low_end, high_end, parity_letter}
-use Rattle.layout.specs.Rules.{keeps, keeps_other, keeps_frame, from_zero, is_whole, fault_by, fault_in, or_else}
+use Rattle.layout.specs.Rules.{from_zero, is_whole, fault_by, fault_in, or_else}
 
-pub two_at : (s : List ℕ) (i : ℕ) → i + 1 < length s → drop i s ≡ get_or s i 0 ∷ get_or s (i + 1) 0 ∷ drop (i + 2) s
+two_at : (s : List ℕ) (i : ℕ) → i + 1 < length s → drop i s ≡ get_or s i 0 ∷ get_or s (i + 1) 0 ∷ drop (i + 2) s
 two_at s i h =
     let a : i < length s = omega arith in
     let e : i + 1 + 1 ≡ i + 2 = omega arith in
@@ -65,10 +64,6 @@ pub whole_long : (n : ℕ) (f : List ℕ) → is_whole n f ≡ true → length f
 unfolding is_whole
 whole_long n f h = eqb-true (length f) n (and_left (eqb (length f) n) (all_in Printable f) h)
 
-pub whole_clean : (n : ℕ) (f : List ℕ) → is_whole n f ≡ true → all_in Printable f ≡ true
-unfolding is_whole
-whole_clean n f h = and_right (eqb (length f) n) (all_in Printable f) h
-
 -- as one is that lies in the line
 pub part_long : (s : List ℕ) (i n : ℕ) → i ≤ length s → n ≤ length s - i → length (part i n s) ≡ n
 part_long s i n a b = simp (length-take, length-drop) (omega arith)
@@ -80,18 +75,3 @@ part_whole s i n a b h = rw (part_long s i n a b, eq-eqb n n refl, all_part Prin
 -- a test that is false is not true
 pub never : {A : Type 0} → false ≡ true → A
 never e = let z : ◌≡◌ {A = ℕ} 0 1 = cc in absurd (omega arith)
-
--- ---- a rule that is kept
-
--- a whole field that keeps its rule has no fault: the rules of numbers, which have their own, are kept by nothing
-module _ (at n r : ℕ) (lax : Bool) (s f : List ℕ) (k : keeps r lax f ≡ true) where
-  not_number : (h : ℕ) → keeps h lax f ≡ false → eqb r h ≡ false
-  not_number h e = go (eqb r h) refl
-    where
-      go : (v : Bool) → eqb r h ≡ v → v ≡ false
-      go true q = sym k ∙ ap (λ x. keeps x lax f) (eqb-true r h q) ∙ e
-      go false q = refl
-
-  pub kept_passes : is_whole n f ≡ true → fault_by at n r lax s f ≡ 0
-  unfolding fault_by keeps keeps_other keeps_frame
-  kept_passes w = rw (w, not_number house refl, not_number low_end refl, not_number high_end refl, not_number parity_letter refl, k)

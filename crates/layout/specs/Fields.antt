@@ -1,9 +1,8 @@
 -- What is read from a record or a row, and what is written into one, by the tables.
 -- Assumes nothing.
-use Rattle.std.specs.Prelude.{ℕ, ◌%◌, ◌≡◌, refl, List, [], ◌∷◌, Bool, true, false, not, cond, eqb, get_or}
-use Rattle.text.specs.declared.Spelled.{Spelled}
+use Rattle.calendar.specs.declared.Day.{Day}
+use Rattle.std.specs.Prelude.{ℕ, ◌%◌, ◌≡◌, refl, List, [], ◌∷◌, Bool, true, false, not, cond, eqb, get_or, Option}
 use Rattle.text.specs.Text.{blank, spelled, same_bytes, part, put_at}
-use Rattle.calendar.specs.declared.Date.{Date}
 use Rattle.calendar.specs.declared.Reading.{Reading}
 use Rattle.calendar.specs.declared.Reading.TheVariants.{Present, Former}
 use Rattle.calendar.specs.Calendar.{day_of}
@@ -22,10 +21,10 @@ unfoldable pub number_of : List ℕ → List ℕ
 number_of r = span data_record npa calling_number r
 
 -- "House Number is blank or 1 to 8 digits; blank counts as 0"
-abbrev pub house_in : List ℕ → Spelled
+abbrev pub house_in : List ℕ → Option ℕ
 house_in f = spelled 0 8 f
 
-unfoldable pub house_of : List ℕ → Spelled
+unfoldable pub house_of : List ℕ → Option ℕ
 house_of r = house_in (field data_record house_number r)
 
 -- "the street fields (directionals, street, suffix, community and state)" lie in two spans, in the record as in the row
@@ -45,11 +44,11 @@ has_esn r = not (blank (field data_record esn r))
 abbrev pub same_esn : List ℕ → List ℕ → Bool
 same_esn a b = same_bytes a b
 
-unfoldable pub date_of : List ℕ → Date
+unfoldable pub date_of : List ℕ → Option Day
 date_of r = day_of (field data_record date r)
 
 -- the same, by either reading
-abbrev pub date_by : Reading → List ℕ → Date
+abbrev pub date_by : Reading → List ℕ → Option Day
 date_by Present r = date_of r
 date_by Former r = former_of (field data_record date r)
 
@@ -72,13 +71,13 @@ pub same_place : same_bytes (sizes_from 2 community data_record) (sizes_from 2 r
 same_place = refl
 
 -- "Low and High are 1 to 8 digits"
-abbrev pub end_in : List ℕ → Spelled
+abbrev pub end_in : List ℕ → Option ℕ
 end_in f = spelled 1 8 f
 
-unfoldable pub low_of : List ℕ → Spelled
+unfoldable pub low_of : List ℕ → Option ℕ
 low_of g = end_in (field guide_row low g)
 
-unfoldable pub high_of : List ℕ → Spelled
+unfoldable pub high_of : List ℕ → Option ℕ
 high_of g = end_in (field guide_row high g)
 
 unfoldable pub parity_of : List ℕ → ℕ

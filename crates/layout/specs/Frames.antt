@@ -1,17 +1,13 @@
 -- 01, "Header" and "Trailer", read to what taking needs. Each table says how long its line is.
 -- Assumes nothing.
-use Rattle.std.specs.Prelude.{ℕ, List, [], ◌∷◌, ◌≡◌, refl, Bool, true, false, ◌&&◌, cond, eqb}
-use Rattle.text.specs.Text.{same_bytes, put_at, spaces, left_digits, right_digits}
-use Rattle.calendar.specs.Calendar.{day_of, on_day}
+use Rattle.std.specs.Prelude.{ℕ, List, [], ◌∷◌, ◌≡◌, refl, Bool, true, false, ◌&&◌, cond, eqb, Option, Some, None}
+use Rattle.text.specs.Text.{same_bytes, put_at, spaces, left_digits, right_digits, on_some}
+use Rattle.calendar.specs.Calendar.{day_of}
 use Rattle.layout.specs.Tables.{header_table, header, trailer, start_of, size_of, field, opener, frame_date, name, cycle, count, frame_star}
-use Rattle.layout.specs.Counters.{cycle_of, on_cycle, count_of, on_count}
+use Rattle.layout.specs.Counters.{cycle_of, count_of}
 use Rattle.layout.specs.Rules.{fault_in}
 use Rattle.layout.specs.declared.counter.Count.{Count}
 use Rattle.layout.specs.declared.frame.Header.{Header}
-use Rattle.layout.specs.declared.frame.Opened.{Opened}
-use Rattle.layout.specs.declared.frame.Opened.TheVariants.{Header as a_header, Wrong as no_header}
-use Rattle.layout.specs.declared.frame.Closed.{Closed}
-use Rattle.layout.specs.declared.frame.Closed.TheVariants.{Trailer as a_trailer, Wrong as no_trailer}
 
 -- where a frame's letters, date, company name, counter and `*` start, and how many bytes each but the counter has
 abbrev pub common_places : List ℕ → ℕ → List ℕ
@@ -33,34 +29,25 @@ date_of s = field header frame_date s
 unfoldable pub name_of : List ℕ → List ℕ
 name_of s = field header name s
 
--- what is made of a header or a trailer, or what stands where it is wrong
-abbrev pub on_header : {A : Type 0} → Opened → A → (Header → A) → A
-on_header (a_header h) other k = k h
-on_header no_header other k = other
-
-abbrev pub on_trailer : {A : Type 0} → Closed → A → (Count → A) → A
-on_trailer (a_trailer c) other k = k c
-on_trailer no_trailer other k = other
-
 -- a header by table t: each field keeps its rule; its day and its cycle
-unfoldable pub header_of : List ℕ → List ℕ → Opened
+unfoldable pub header_of : List ℕ → List ℕ → Option Header
 header_of t s =
     cond (eqb (fault_in false s t) 0)
-    (on_day (day_of (date_of s)) no_header (λ d.
-    on_cycle (cycle_of (field header cycle s)) no_header (λ c.
-    a_header (record { day = d; cycle = c }))))
-    no_header
+    (on_some (day_of (date_of s)) None (λ d.
+    on_some (cycle_of (field header cycle s)) None (λ c.
+    Some (record { day = d; cycle = c }))))
+    None
 
 -- "its date or name differs from the header's"
 unfoldable pub same_frame : List ℕ → List ℕ → Bool
 same_frame h s = same_bytes (date_of h) (date_of s) && same_bytes (name_of h) (name_of s)
 
 -- a trailer by table t, beside its header h: its record count
-unfoldable pub trailer_of : List ℕ → List ℕ → List ℕ → Closed
+unfoldable pub trailer_of : List ℕ → List ℕ → List ℕ → Option Count
 trailer_of t h s =
     cond (eqb (fault_in false s t) 0)
-    (cond (same_frame h s) (on_count (count_of (field trailer count s)) no_trailer a_trailer) no_trailer)
-    no_trailer
+    (cond (same_frame h s) (on_some (count_of (field trailer count s)) None Some) None)
+    None
 
 -- ---- writing
 

@@ -1,13 +1,14 @@
 -- 01, "Field rules": what each rule asks of a field, and the first fault of a line by its table.
 -- Assumes nothing.
+use Rattle.std.specs.Option.{is_some}
 use Rattle.std.specs.Prelude.{ℕ, ◌-◌, List, [], ◌∷◌, Bool, true, false, ◌&&◌, ◌||◌, cond, ltb, eqb, length, get_or}
 use Rattle.text.specs.declared.Class.TheVariants.{Printable, Space, Digit, Capital, CapitalOrDigit}
-use Rattle.text.specs.Text.{all_in, all_of, blank, run_of, runs_of, same_bytes, on_number, part}
-use Rattle.calendar.specs.Calendar.{day_of, on_day}
+use Rattle.text.specs.Text.{all_in, all_of, blank, run_of, runs_of, same_bytes, part, on_some}
+use Rattle.calendar.specs.Calendar.{day_of}
 use Rattle.layout.specs.Tables.{free, left_text, named, code, digits, house, direction, one_digit, zero_to_five, capitals}
 use Rattle.layout.specs.Tables.{space_or_c, zone, company_letters, mmddyy, star, row_zone, row_code, opening, closing, turn, tally}
 use Rattle.layout.specs.Tables.{low_end, high_end, parity_letter, first_code}
-use Rattle.layout.specs.Counters.{cycle_of, on_cycle, count_of, on_count}
+use Rattle.layout.specs.Counters.{cycle_of, count_of}
 use Rattle.layout.specs.Fields.{function_of, house_in, end_in, low_of, high_of, parity_of, allows}
 
 -- "A field is left-justified: if not blank, its first byte is no space"
@@ -36,13 +37,13 @@ is_direction f =
 
 -- "Dates are MMDDYY, real calendar days"
 unfoldable pub is_date : List ℕ → Bool
-is_date f = on_day (day_of f) false (λ d. true)
+is_date f = is_some (day_of f)
 
 unfoldable pub is_cycle : List ℕ → Bool
-is_cycle f = on_cycle (cycle_of f) false (λ c. true)
+is_cycle f = is_some (cycle_of f)
 
 unfoldable pub is_tally : List ℕ → Bool
-is_tally f = on_count (count_of f) false (λ c. true)
+is_tally f = is_some (count_of f)
 
 -- header and trailer: "`UHL` and two spaces", "`UTL` and two spaces", the cycle, the record count; a rule without a name is
 -- kept by nothing
@@ -88,24 +89,24 @@ keeps r lax f =
 
 -- "House Number is blank or 1 to 8 digits"
 unfoldable pub house_fault : ℕ → List ℕ → ℕ
-house_fault at f = on_number (house_in f) at (λ n. 0)
+house_fault at f = on_some (house_in f) at (λ n. 0)
 
 -- "Low and High are 1 to 8 digits"
 unfoldable pub end_fault : ℕ → List ℕ → ℕ
-end_fault at f = on_number (end_in f) at (λ n. 0)
+end_fault at f = on_some (end_in f) at (λ n. 0)
 
 -- "Low at most High (fault at 79)"
 unfoldable pub high_fault : ℕ → List ℕ → ℕ
 high_fault at row =
-    on_number (high_of row) at (λ high.
-    on_number (low_of row) at (λ low.
+    on_some (high_of row) at (λ high.
+    on_some (low_of row) at (λ low.
     cond (ltb high low) at 0))
 
 -- "for `O` both ends are odd, for `E` both even (fault at 123)"; the letter is `O`, `E` or `B`
 unfoldable pub parity_fault : ℕ → List ℕ → ℕ
 parity_fault at row =
-    on_number (low_of row) at (λ low.
-    on_number (high_of row) at (λ high.
+    on_some (low_of row) at (λ low.
+    on_some (high_of row) at (λ high.
     cond (allows (parity_of row) low && allows (parity_of row) high) 0 at))
 
 -- ---- the first fault of a line
@@ -114,16 +115,18 @@ parity_fault at row =
 unfoldable pub is_whole : ℕ → List ℕ → Bool
 is_whole n f = eqb (length f) n && all_in Printable f
 
--- the fault of field f of a line, which starts at position `at` and has n bytes: `at`, or 0 where it keeps its rule
-unfoldable pub fault_by : ℕ → ℕ → ℕ → Bool → List ℕ → List ℕ → ℕ
-fault_by at n r lax s f =
-    cond (is_whole n f)
-    (cond (eqb r house) (house_fault at f)
+-- the fault of field f of a line, which starts at position `at`, by its rule alone: `at`, or 0 where it keeps it
+abbrev pub rule_by : ℕ → ℕ → Bool → List ℕ → List ℕ → ℕ
+rule_by at r lax s f =
+    cond (eqb r house) (house_fault at f)
     (cond (eqb r low_end) (end_fault at f)
     (cond (eqb r high_end) (high_fault at s)
     (cond (eqb r parity_letter) (parity_fault at s)
-    (cond (keeps r lax f) 0 at)))))
-    at
+    (cond (keeps r lax f) 0 at))))
+
+-- the same of a field that has n bytes, all of them there and 20 to 7E hex
+unfoldable pub fault_by : ℕ → ℕ → ℕ → Bool → List ℕ → List ℕ → ℕ
+fault_by at n r lax s f = cond (is_whole n f) (rule_by at r lax s f) at
 
 abbrev pub from_zero : ℕ → ℕ
 from_zero at = at - 1

@@ -5,45 +5,26 @@ ghost use Rattle.layout.specs.Counters.{cycle_of, given_cycle, next_of, is_next_
 ghost use Rattle.text.specs.Text.{left_digits};
 
 use crate::place;
-use text::{Class, Spelled};
+use text::Class;
 
-#[derive(Clone, Copy)]
+#[derive(Clone, Copy, PartialEq, Eq)]
 pub struct Cycle(u32);
 
 #[derive(Clone, Copy)]
 pub struct Count(u32);
 
-// A cycle, or none: what a header's field holds, and what follows a cycle.
-#[derive(Clone, Copy)]
-pub enum Turn {
-    Cycle(Cycle),
-    NoCycle,
-}
-
-// A record count, or none: what a trailer's field holds.
-#[derive(Clone, Copy)]
-pub enum Tally {
-    Count(Count),
-    NoCount,
-}
-
 // The last cycle before 1 comes again.
 const LAST: u32 = 999999;
 
-// The cycle of a header's field.
-pub fn cycle_in(f: &[u8]) -> Turn
+// The cycle of a header's field, if it holds one.
+#[tactic(auto, unfolding(crate::specs::Counters::cycle_of))]
+pub fn cycle_in(f: &[u8]) -> Option<Cycle>
     ensures { result ≡ cycle_of f.now }
 {
-    let Spelled::Number(n) = text::number_in(f, 1, place::CYCLE_SIZE) else {
-        return Turn::NoCycle;
-    };
-    if n < 1 {
-        return Turn::NoCycle;
+    match text::number_in(f, 1, place::CYCLE_SIZE) {
+        Some(n @ 1..=LAST) => Some(Cycle(n)),
+        _ => None,
     }
-    if LAST < n {
-        return Turn::NoCycle;
-    }
-    Turn::Cycle(Cycle(n))
 }
 
 impl Cycle {
@@ -62,27 +43,21 @@ impl Cycle {
     }
 
     // After 999999 comes 1; a last cycle above that has no next.
-    pub fn next(self) -> Turn
+    pub fn next(self) -> Option<Cycle>
         ensures { result ≡ next_of self }
     {
-        let n = self.0;
-        if n < LAST {
-            return Turn::Cycle(Cycle(n + 1));
+        match self.0 {
+            n @ ..LAST => Some(Cycle(n + 1)),
+            LAST => Some(Cycle(1)),
+            _ => None,
         }
-        if n == LAST {
-            return Turn::Cycle(Cycle(1));
-        }
-        Turn::NoCycle
     }
 
     // Whether a header's cycle is the next after this last one.
     pub fn is_next(self, given: Cycle) -> bool
         ensures { result ≡ is_next_of self given }
     {
-        let Turn::Cycle(next) = self.next() else {
-            return false;
-        };
-        next.0 == given.0
+        self.next() == Some(given)
     }
 
     // The cycle in decimal with no leading zero, left-justified in its field.
@@ -97,23 +72,22 @@ impl Cycle {
 fn is_plain(d: &[u8]) -> bool
     ensures { result ≡ plain_digits d.now }
 {
-    text::all_in(d, Class::Digit) & ((d.len() == 1) | (text::byte_of(d, 0) != b'0'))
+    text::all_in(d, Class::Digit) && (d.len() == 1 || text::byte_of(d, 0) != b'0')
 }
 
-fn whole_count(d: &[u8]) -> Tally
+#[tactic(auto, unfolding(crate::specs::Counters::whole_count))]
+fn whole_count(d: &[u8]) -> Option<Count>
     ensures { result ≡ whole_count d.now }
 {
-    if is_plain(d) {
-        let Spelled::Number(n) = text::number_in(d, 1, place::COUNT_SIZE) else {
-            return Tally::NoCount;
-        };
-        return Tally::Count(Count(n));
+    if !is_plain(d) {
+        return None;
     }
-    Tally::NoCount
+    text::number_in(d, 1, place::COUNT_SIZE).map(Count)
 }
 
-// The record count of a trailer's field: spaces, and then a plain number.
-pub fn count_in(f: &[u8]) -> Tally
+// The record count of a trailer's field, if it holds one: spaces, and then a plain number.
+#[tactic(auto, using(text::proofs::Laws::rest_is), unfolding(crate::specs::Counters::count_of))]
+pub fn count_in(f: &[u8]) -> Option<Count>
     ensures { result ≡ count_of f.now }
 {
     let n = text::run(f, Class::Space);

@@ -1,14 +1,14 @@
 // What is read from a record or a row, and what is written into one. A line that is too short gives what of the field
-// there is, and 0 for a field of one byte.
+// there is, and 0 for a field of one byte. Each is a line under the field's own name, as it is defined, and not one function of a place.
 ghost use Rattle.std.specs.Prelude.{◌≡◌};
 ghost use Rattle.layout.specs.Fields.{function_of, number_of, house_in, house_of, street_of, place_of, esn_of, has_esn, same_esn, date_of, date_by, company_of};
 ghost use Rattle.layout.specs.Fields.{row_street_of, row_place_of, end_in, low_of, high_of, parity_of, allows, row_esn_of, row_function_of};
 ghost use Rattle.layout.specs.Fields.{with_esn, for_load};
 
 use crate::place;
-use calendar::{Date, Reading};
-use text::Spelled;
+use calendar::{Day, Reading};
 
+#[tactic(auto, unfolding(crate::specs::Fields::function_of))]
 pub fn function(rec: &[u8]) -> u8
     ensures { result ≡ function_of rec.now }
 {
@@ -16,6 +16,7 @@ pub fn function(rec: &[u8]) -> u8
 }
 
 // NPA and Calling Number, ten bytes.
+#[tactic(auto, unfolding(crate::specs::Fields::number_of))]
 pub fn number(rec: &[u8]) -> &[u8]
     ensures { result.now ≡ number_of rec.now }
 {
@@ -26,19 +27,21 @@ pub fn number(rec: &[u8]) -> &[u8]
 const MOST_DIGITS: usize = 8;
 
 // A House Number: blank, which counts as 0, or 1 to 8 digits.
-pub fn house_in(f: &[u8]) -> Spelled
+pub fn house_in(f: &[u8]) -> Option<u32>
     ensures { result ≡ house_in f.now }
 {
     text::number_in(f, 0, MOST_DIGITS)
 }
 
-pub fn house(rec: &[u8]) -> Spelled
+#[tactic(auto, unfolding(crate::specs::Fields::house_of))]
+pub fn house(rec: &[u8]) -> Option<u32>
     ensures { result ≡ house_of rec.now }
 {
     house_in(text::part_of(rec, place::HOUSE_AT, place::HOUSE_SIZE))
 }
 
 // Prefix, Street Name, Suffix and Post.
+#[tactic(auto, unfolding(crate::specs::Fields::street_of))]
 pub fn street(rec: &[u8]) -> &[u8]
     ensures { result.now ≡ street_of rec.now }
 {
@@ -46,12 +49,14 @@ pub fn street(rec: &[u8]) -> &[u8]
 }
 
 // Community and State.
+#[tactic(auto, unfolding(crate::specs::Fields::place_of))]
 pub fn place(rec: &[u8]) -> &[u8]
     ensures { result.now ≡ place_of rec.now }
 {
     text::part_of(rec, place::COMMUNITY_AT, place::PLACE_SIZE)
 }
 
+#[tactic(auto, unfolding(crate::specs::Fields::esn_of))]
 pub fn esn(rec: &[u8]) -> &[u8]
     ensures { result.now ≡ esn_of rec.now }
 {
@@ -59,10 +64,11 @@ pub fn esn(rec: &[u8]) -> &[u8]
 }
 
 // Whether the ESN is not blank.
+#[tactic(auto, unfolding(crate::specs::Fields::has_esn, crate::specs::Fields::esn_of))]
 pub fn has_esn(rec: &[u8]) -> bool
     ensures { result ≡ has_esn rec.now }
 {
-    !text::is_blank(text::part_of(rec, place::ESN_AT, place::ESN_SIZE))
+    !text::is_blank(esn(rec))
 }
 
 // Whether two ESNs are the same: byte for byte, so that `83` and `083` differ.
@@ -72,14 +78,16 @@ pub fn same_esn(a: &[u8], b: &[u8]) -> bool
     text::same(a, b)
 }
 
-pub fn date(rec: &[u8]) -> Date
+#[tactic(auto, unfolding(crate::specs::Fields::date_of))]
+pub fn date(rec: &[u8]) -> Option<Day>
     ensures { result ≡ date_of rec.now }
 {
     calendar::day_in(text::part_of(rec, place::DATE_AT, place::DATE_SIZE))
 }
 
 // The same, by a reading.
-pub fn date_by(reading: Reading, rec: &[u8]) -> Date
+#[tactic(auto, unfolding(crate::specs::Fields::date_of))]
+pub fn date_by(reading: Reading, rec: &[u8]) -> Option<Day>
     ensures { result ≡ date_by reading rec.now }
 {
     calendar::day_by(
@@ -88,18 +96,21 @@ pub fn date_by(reading: Reading, rec: &[u8]) -> Date
     )
 }
 
+#[tactic(auto, unfolding(crate::specs::Fields::company_of))]
 pub fn company(rec: &[u8]) -> &[u8]
     ensures { result.now ≡ company_of rec.now }
 {
     text::part_of(rec, place::COMPANY_AT, place::COMPANY_SIZE)
 }
 
+#[tactic(auto, unfolding(crate::specs::Fields::row_street_of))]
 pub fn row_street(row: &[u8]) -> &[u8]
     ensures { result.now ≡ row_street_of row.now }
 {
     text::part_of(row, place::ROW_PREFIX_AT, place::ROW_SPAN_SIZE)
 }
 
+#[tactic(auto, unfolding(crate::specs::Fields::row_place_of))]
 pub fn row_place(row: &[u8]) -> &[u8]
     ensures { result.now ≡ row_place_of row.now }
 {
@@ -107,24 +118,27 @@ pub fn row_place(row: &[u8]) -> &[u8]
 }
 
 // An end of a row: 1 to 8 digits.
-pub fn end_in(f: &[u8]) -> Spelled
+pub fn end_in(f: &[u8]) -> Option<u32>
     ensures { result ≡ end_in f.now }
 {
     text::number_in(f, 1, MOST_DIGITS)
 }
 
-pub fn low(row: &[u8]) -> Spelled
+#[tactic(auto, unfolding(crate::specs::Fields::low_of))]
+pub fn low(row: &[u8]) -> Option<u32>
     ensures { result ≡ low_of row.now }
 {
     end_in(text::part_of(row, place::LOW_AT, place::LOW_SIZE))
 }
 
-pub fn high(row: &[u8]) -> Spelled
+#[tactic(auto, unfolding(crate::specs::Fields::high_of))]
+pub fn high(row: &[u8]) -> Option<u32>
     ensures { result ≡ high_of row.now }
 {
     end_in(text::part_of(row, place::HIGH_AT, place::HIGH_SIZE))
 }
 
+#[tactic(auto, unfolding(crate::specs::Fields::parity_of))]
 pub fn parity(row: &[u8]) -> u8
     ensures { result ≡ parity_of row.now }
 {
@@ -132,6 +146,7 @@ pub fn parity(row: &[u8]) -> u8
 }
 
 // Whether a parity allows a house number.
+#[tactic(auto, unfolding(crate::specs::Fields::allows))]
 pub fn allowed(parity: u8, n: u32) -> bool
     ensures { result ≡ allows parity n }
 {
@@ -143,12 +158,14 @@ pub fn allowed(parity: u8, n: u32) -> bool
     }
 }
 
+#[tactic(auto, unfolding(crate::specs::Fields::row_esn_of))]
 pub fn row_esn(row: &[u8]) -> &[u8]
     ensures { result.now ≡ row_esn_of row.now }
 {
     text::part_of(row, place::ROW_ESN_AT, place::ROW_ESN_SIZE)
 }
 
+#[tactic(auto, unfolding(crate::specs::Fields::row_function_of))]
 pub fn row_function(row: &[u8]) -> u8
     ensures { result ≡ row_function_of row.now }
 {
@@ -156,6 +173,7 @@ pub fn row_function(row: &[u8]) -> u8
 }
 
 // Another ESN in a record; no byte outside that field is written.
+#[tactic(auto, unfolding(crate::specs::Fields::with_esn))]
 pub fn fill_esn(rec: &mut [u8], esn: &[u8])
     ensures { rec.new ≡ with_esn esn.now rec.old }
 {
@@ -167,6 +185,7 @@ pub fn fill_esn(rec: &mut [u8], esn: &[u8])
 }
 
 // Function `I` and Source `C`, as a record stands in a load file.
+#[tactic(auto, unfolding(crate::specs::Fields::for_load))]
 pub fn mark_for_load(rec: &mut [u8])
     ensures { rec.new ≡ for_load rec.old }
 {

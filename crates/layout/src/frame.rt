@@ -1,5 +1,5 @@
-// What a header and a trailer are read to.
-use crate::counter::{Count, Cycle};
+// What a header is read to.
+use crate::counter::Cycle;
 use calendar::Day;
 
 // What a step knows of the file that its record stands in.
@@ -7,16 +7,4 @@ use calendar::Day;
 pub struct Header {
     pub day: Day,
     pub cycle: Cycle,
-}
-
-#[derive(Clone, Copy)]
-pub enum Opened {
-    Header(Header),
-    Wrong,
-}
-
-#[derive(Clone, Copy)]
-pub enum Closed {
-    Trailer(Count),
-    Wrong,
 }

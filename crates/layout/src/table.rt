@@ -1,7 +1,8 @@
 // 01, "Layouts": where each field of a line starts (from 1), how many bytes it has, and the rule that it keeps. Reading, checking
 // and writing all use these tables: no position stands anywhere else. Beside the number of a rule stand the letters or the bounds
-// that it names, for all that check it.
-ghost use Rattle.std.specs.Prelude.{◌≡◌, ◌-◌};
+// that it names, for all that check it. Start, length and rule are numbers, and no struct or enum, as the definitions of the tables are
+// lists of numbers, to which `data_record` and its sisters are promised to be equal.
+ghost use Rattle.std.specs.Prelude.{◌≡◌, ◌-◌, get_or, set};
 ghost use Rattle.layout.specs.Tables.{data_record, narrow_record, guide_row, header_table, trailer_table, header, trailer};
 
 // Any printable bytes.
@@ -439,34 +440,28 @@ pub fn trailer() -> FrameTable
     TRAILER
 }
 
-// How many bytes lie from one position to another.
-fn from_to(a: usize, b: usize) -> usize
-    ensures { result ≡ b - a }
+// A frame's table for a line of m bytes: the free part ends before its `*`.
+fn framed(frame: FrameTable, m: usize) -> FrameTable
+    ensures { result ≡ set (set frame 13 (m - get_or frame 12 0)) 15 m }
 {
-    if b < a {
-        return 0;
-    }
-    b - a
+    let mut table = frame;
+    table[3 * FRAME_FREE + 1] = m.saturating_sub(frame[3 * FRAME_FREE]);
+    table[3 * FRAME_STAR] = m;
+    table
 }
 
-// The header's table for a header of m bytes: the free part ends before its `*`.
+// The header's table for a header of m bytes.
 pub fn header_table(m: usize) -> FrameTable
     ensures { result ≡ header_table m }
 {
-    let mut table = HEADER;
-    table[3 * FRAME_FREE + 1] = from_to(HEADER[3 * FRAME_FREE], m);
-    table[3 * FRAME_STAR] = m;
-    table
+    framed(HEADER, m)
 }
 
 // The trailer's, in the same way.
 pub fn trailer_table(m: usize) -> FrameTable
     ensures { result ≡ trailer_table m }
 {
-    let mut table = TRAILER;
-    table[3 * FRAME_FREE + 1] = from_to(TRAILER[3 * FRAME_FREE], m);
-    table[3 * FRAME_STAR] = m;
-    table
+    framed(TRAILER, m)
 }
 
 // Fields by their places in the tables, from 0: those of the data record,

@@ -3,76 +3,68 @@ use crate::out;
 use layout::counter::Cycle;
 use std::io;
 
-fn after(rt: &impl Print, last: u32) -> io::Result<()> {
-    out::word(rt, b"cycle after ")?;
-    out::number(rt, last as u64)?;
-    out::ends_in_turn(rt, Cycle::given(last).next())
-}
-
-fn follows(rt: &impl Print, given: u32, last: u32) -> io::Result<()> {
-    out::word(rt, b"cycle ")?;
-    out::number(rt, given as u64)?;
-    out::word(rt, b" is next after ")?;
-    out::number(rt, last as u64)?;
-    out::ends_in_answer(rt, Cycle::given(last).is_next(Cycle::given(given)))
+// The cycle after this one, or that there is none.
+fn next(last: u32) -> out::Outcome {
+    out::number_or(Cycle::given(last).next().map(Cycle::number), "none")
 }
 
 fn cycles(rt: &impl Print) -> io::Result<()> {
-    out::word(rt, b"cycle after none")?;
-    out::ends_in_turn(rt, Cycle::given(0).next())?;
-    after(rt, 0)?;
-    after(rt, 1)?;
-    after(rt, 999998)?;
-    after(rt, 999999)?;
-    after(rt, 1000000)?;
-    after(rt, 4294967295)
+    println!(rt; "cycle after none: {}", next(0))?;
+    for last in [0, 1, 999998, 999999, 1000000, u32::MAX] {
+        println!(rt; "cycle after {last}: {}", next(last))?;
+    }
+    Ok(())
 }
 
 fn next_cycles(rt: &impl Print) -> io::Result<()> {
-    follows(rt, 1, 0)?;
-    follows(rt, 0, 0)?;
-    follows(rt, 2, 0)?;
-    follows(rt, 2, 1)?;
-    follows(rt, 1, 1)?;
-    follows(rt, 999999, 999998)?;
-    follows(rt, 1, 999999)?;
-    follows(rt, 1000000, 999999)?;
-    follows(rt, 1, 1000000)?;
-    follows(rt, 1000001, 1000000)?;
-    follows(rt, 0, 4294967295)?;
-    follows(rt, 1, 4294967295)
+    for (given, last) in [
+        (1, 0),
+        (0, 0),
+        (2, 0),
+        (2, 1),
+        (1, 1),
+        (999999, 999998),
+        (1, 999999),
+        (1000000, 999999),
+        (1, 1000000),
+        (1000001, 1000000),
+        (0, u32::MAX),
+        (1, u32::MAX),
+    ] {
+        let follows = Cycle::given(last).is_next(Cycle::given(given));
+        println!(rt;
+            "cycle {given} is next after {last}: {}",
+            out::answer(follows)
+        )?;
+    }
+    Ok(())
 }
 
-// A cycle in its field: no leading zero, spaces behind; dots stay where it does not fit.
-fn cycle(rt: &impl Print, n: u32) -> io::Result<()> {
-    let mut f = [b'.'; 6];
-    Cycle::given(n).put(&mut f);
-    out::word(rt, b"cycle ")?;
-    out::number(rt, n as u64)?;
-    out::word(rt, b" written")?;
-    out::ends_in_bytes(rt, &f)
+// Cycles in their field: no leading zero, spaces behind; dots stay where one does not fit.
+fn written_cycles(rt: &impl Print) -> io::Result<()> {
+    for n in [1, 83, 999999, 1000000] {
+        let mut f = [b'.'; 6];
+        Cycle::given(n).put(&mut f);
+        print!(rt; "cycle {n} written")?;
+        out::ends_in_bytes(rt, &f)?;
+    }
+    Ok(())
 }
 
-// A count in its field: spaces before it.
-fn count(rt: &impl Print, n: u32) -> io::Result<()> {
-    let mut f = [b'.'; 9];
-    text::put_right(&mut f, n);
-    out::word(rt, b"count ")?;
-    out::number(rt, n as u64)?;
-    out::word(rt, b" written")?;
-    out::ends_in_bytes(rt, &f)
+// Counts in their field: spaces before them.
+fn written_counts(rt: &impl Print) -> io::Result<()> {
+    for n in [0, 7, 9999, 999999999, 1000000000] {
+        let mut f = [b'.'; 9];
+        text::put_right(&mut f, n);
+        print!(rt; "count {n} written")?;
+        out::ends_in_bytes(rt, &f)?;
+    }
+    Ok(())
 }
 
 pub fn run(rt: &impl Print) -> io::Result<()> {
     cycles(rt)?;
     next_cycles(rt)?;
-    cycle(rt, 1)?;
-    cycle(rt, 83)?;
-    cycle(rt, 999999)?;
-    cycle(rt, 1000000)?;
-    count(rt, 0)?;
-    count(rt, 7)?;
-    count(rt, 9999)?;
-    count(rt, 999999999)?;
-    count(rt, 1000000000)
+    written_cycles(rt)?;
+    written_counts(rt)
 }

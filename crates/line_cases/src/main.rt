@@ -6,13 +6,11 @@ mod cases;
 mod counters;
 mod dates;
 mod frames;
-mod lists;
 mod made;
 mod out;
 mod readers;
 mod records;
 mod rows;
-mod scan;
 
 use std::io;
 

@@ -1,128 +1,66 @@
 // What a case writes: one line, that ends in what came of it.
-ghost use Rattle.std.specs.Prelude.{◌≤◌};
+use calendar::Day;
+use layout::frame::Header;
+use std::{fmt, io};
 
-use calendar::{Date, Day};
-use layout::counter::Turn;
-use layout::frame::{Closed, Opened};
-use std::io;
-use text::Spelled;
-
-pub fn word(rt: &impl Print, b: &[u8]) -> io::Result<()> {
-    rt.write_all(b)
+// A field by its name, and the bytes that it is given, in quotes that show its spaces.
+#[derive(Clone, Copy)]
+pub struct Given<'a> {
+    pub name: &'a str,
+    pub value: &'a str,
 }
 
-pub fn number(rt: &impl Print, n: u64) -> io::Result<()> {
-    rt.print(n)
-}
-
-// A byte as two digits, in hexadecimal.
-pub fn hex_byte(rt: &impl Print, b: u8) -> io::Result<()> {
-    print!(rt; "{b:02x}")
-}
-
-// The bytes of a field, in quotes that show its spaces.
-pub fn quoted(rt: &impl Print, b: &[u8]) -> io::Result<()> {
-    word(rt, b"`")?;
-    word(rt, b)?;
-    word(rt, b"`")
-}
-
-// A field by its name, and the bytes that it is given.
-pub fn field(rt: &impl Print, name: &[u8], bytes: &[u8]) -> io::Result<()> {
-    word(rt, name)?;
-    if text::is_blank(bytes) {
-        return word(rt, b" blank");
+impl fmt::Display for Given<'_> {
+    fn fmt<W: fmt::Write>(&self, f: &mut fmt::Formatter<W>) -> fmt::Result {
+        let Given { name, value } = *self;
+        if text::is_blank(value.as_bytes()) {
+            write!(f, "{name} blank")
+        } else {
+            write!(f, "{name} `{value}`")
+        }
     }
-    word(rt, b" ")?;
-    quoted(rt, bytes)
 }
 
-pub fn ends_in_word(rt: &impl Print, b: &[u8]) -> io::Result<()> {
-    word(rt, b": ")?;
-    word(rt, b)?;
-    word(rt, b"\n")
+// What came of a case.
+#[derive(Clone, Copy)]
+pub enum Outcome {
+    Number(u64),
+    Word(&'static str),
+    Header(Header),
 }
 
-pub fn ends_in_bytes(rt: &impl Print, b: &[u8]) -> io::Result<()> {
-    word(rt, b": ")?;
-    quoted(rt, b)?;
-    word(rt, b"\n")
-}
-
-pub fn ends_in_number(rt: &impl Print, n: u64) -> io::Result<()> {
-    word(rt, b": ")?;
-    number(rt, n)?;
-    word(rt, b"\n")
-}
-
-pub fn ends_in_answer(rt: &impl Print, b: bool) -> io::Result<()> {
-    if b {
-        return ends_in_word(rt, b"yes");
+impl fmt::Display for Outcome {
+    fn fmt<W: fmt::Write>(&self, f: &mut fmt::Formatter<W>) -> fmt::Result {
+        match *self {
+            Outcome::Number(n) => write!(f, "{n}"),
+            Outcome::Word(word) => write!(f, "{word}"),
+            Outcome::Header(Header { day, cycle }) => {
+                write!(f, "day {}, cycle {}", day_number(day), cycle.number())
+            }
+        }
     }
-    ends_in_word(rt, b"no")
 }
 
-pub fn ends_in_spelled(rt: &impl Print, s: Spelled) -> io::Result<()> {
-    let Spelled::Number(n) = s else {
-        return ends_in_word(rt, b"no number");
-    };
-    ends_in_number(rt, n as u64)
+// A number, or a word where there is none.
+pub fn number_or(number: Option<u32>, word: &'static str) -> Outcome {
+    match number {
+        Some(n) => Outcome::Number(u64::from(n)),
+        None => Outcome::Word(word),
+    }
 }
 
-pub fn ends_in_turn(rt: &impl Print, t: Turn) -> io::Result<()> {
-    let Turn::Cycle(c) = t else {
-        return ends_in_word(rt, b"none");
-    };
-    ends_in_number(rt, c.number() as u64)
-}
-
-fn wide(b: u8) -> u64
-    ensures { result ≤ 255 }
-{
-    b as u64
+pub fn answer(yes: bool) -> &'static str {
+    if yes { "yes" } else { "no" }
 }
 
 // A day's number is its own: its four bytes, the high byte first, show it.
-fn joined(b: &[u8; 4]) -> u64 {
-    wide(b[0]) * 16777216 + wide(b[1]) * 65536 + wide(b[2]) * 256 + wide(b[3])
+pub fn day_number(day: Day) -> u32 {
+    u32::from_be_bytes(day.bytes())
 }
 
-fn day_number(d: Day) -> u64 {
-    let b = d.bytes();
-    joined(&b)
-}
-
-pub fn ends_in_date(rt: &impl Print, d: Date) -> io::Result<()> {
-    let Date::Day(day) = d else {
-        return ends_in_word(rt, b"no date");
-    };
-    ends_in_number(rt, day_number(day))
-}
-
-pub fn ends_in_header(rt: &impl Print, h: Opened) -> io::Result<()> {
-    let Opened::Header(header) = h else {
-        return ends_in_word(rt, b"wrong");
-    };
-    let day = header.day;
-    let cycle = header.cycle;
-    word(rt, b": day ")?;
-    number(rt, day_number(day))?;
-    word(rt, b", cycle ")?;
-    number(rt, cycle.number() as u64)?;
-    word(rt, b"\n")
-}
-
-pub fn ends_in_trailer(rt: &impl Print, t: Closed) -> io::Result<()> {
-    let Closed::Trailer(_) = t else {
-        return ends_in_word(rt, b"wrong");
-    };
-    ends_in_word(rt, b"read")
-}
-
-// Whether a trailer's record count is n.
-pub fn ends_in_count(rt: &impl Print, t: Closed, n: usize) -> io::Result<()> {
-    let Closed::Trailer(count) = t else {
-        return ends_in_word(rt, b"wrong");
-    };
-    ends_in_answer(rt, count.is(n))
+// A line that ends in these bytes, in quotes.
+pub fn ends_in_bytes(rt: &impl Print, bytes: &[u8]) -> io::Result<()> {
+    print!(rt; ": `")?;
+    rt.write_all(bytes)?;
+    println!(rt; "`")
 }

@@ -1,15 +1,15 @@
 // Cases of the data record: the position of its first fault, or 0. What the good record holds is not run again.
-use crate::made::Kind;
-use crate::{cases, lists};
+use crate::cases;
+use crate::made::{Change, Kind};
 use layout::table;
 use std::io;
 
 // 003's type letters are no rule, and lower case is good in text.
 fn fields(rt: &impl Print) -> io::Result<()> {
-    lists::each_field(
+    cases::fields(
         rt,
         Kind::Data,
-        b"Function=C|D|U|M|X|i;NPA=5A3|50;Calling Number=555A100|555010;\
+        "Function=C|D|U|M|X|i;NPA=5A3|50;Calling Number=555A100|555010;\
         House Number=12345678|123456789|1234567890|00000001|000000001|1 1| 1|12A|-1;House Suffix;\
         Prefix Directional=N|S|E|W|NE|NW|SE|SW|EN|NS| N|n;Street Name=Main;Street Suffix;\
         Post Directional=SW|EN| N;Community=Salem;State=Or|O1|O| R;Location;Customer Name=a name;\
@@ -20,95 +20,75 @@ fn fields(rt: &impl Print) -> io::Result<()> {
     )
 }
 
-fn comment(rt: &impl Print, b: u8) -> io::Result<()> {
-    cases::byte(rt, Kind::Data, b"Comments", table::COMMENTS, 2, b)
-}
-
 // Every byte is 20 to 7E hex.
 fn printable(rt: &impl Print) -> io::Result<()> {
-    comment(rt, 0)?;
-    comment(rt, 31)?;
-    comment(rt, 32)?;
-    comment(rt, 126)?;
-    comment(rt, 127)?;
-    comment(rt, 255)
+    for b in [0, 31, 32, 126, 127, 255] {
+        cases::byte(rt, Kind::Data, "Comments", table::COMMENTS, 2, b)?;
+    }
+    Ok(())
 }
 
-fn coded(rt: &impl Print, c: &[u8], name: &[u8], k: usize, bytes: &[u8]) -> io::Result<()> {
-    cases::two(
-        rt,
-        Kind::Data,
-        b"Function",
-        table::FUNCTION,
-        c,
-        name,
-        k,
-        bytes,
-    )
+// A change of a record with this code.
+fn coded(rt: &impl Print, code: &str, change: Change) -> io::Result<()> {
+    let function = Change::new("Function", table::FUNCTION, code);
+    cases::two(rt, Kind::Data, function, change)
 }
 
 // Five fields are blank only in D and U, and two in no code. Blank in I comes with the fields.
-fn blanks(rt: &impl Print, c: &[u8]) -> io::Result<()> {
-    coded(rt, c, b"Street Name", table::STREET_NAME, b"")?;
-    coded(rt, c, b"Community", table::COMMUNITY, b"")?;
-    coded(rt, c, b"State", table::STATE, b"")?;
-    coded(rt, c, b"Class", table::CLASS, b"")?;
-    coded(rt, c, b"Type", table::TYPE, b"")?;
-    coded(rt, c, b"Date", table::DATE, b"")?;
-    coded(rt, c, b"Company ID", table::COMPANY_ID, b"")
+fn blanks(rt: &impl Print, code: &str) -> io::Result<()> {
+    for (name, field) in [
+        ("Street Name", table::STREET_NAME),
+        ("Community", table::COMMUNITY),
+        ("State", table::STATE),
+        ("Class", table::CLASS),
+        ("Type", table::TYPE),
+        ("Date", table::DATE),
+        ("Company ID", table::COMPANY_ID),
+    ] {
+        coded(rt, code, Change::new(name, field, ""))?;
+    }
+    Ok(())
 }
 
 // In D and U those five are blank or fully good.
 fn blank_or_good(rt: &impl Print) -> io::Result<()> {
-    coded(rt, b"D", b"Street Name", table::STREET_NAME, b" A")?;
-    coded(rt, b"U", b"Community", table::COMMUNITY, b" A")?;
-    coded(rt, b"D", b"State", table::STATE, b"O")?;
-    coded(rt, b"U", b"Class", table::CLASS, b"A")?;
-    coded(rt, b"D", b"Type", table::TYPE, b"6")
+    coded(
+        rt,
+        "D",
+        Change::new("Street Name", table::STREET_NAME, " A"),
+    )?;
+    coded(rt, "U", Change::new("Community", table::COMMUNITY, " A"))?;
+    coded(rt, "D", Change::new("State", table::STATE, "O"))?;
+    coded(rt, "U", Change::new("Class", table::CLASS, "A"))?;
+    coded(rt, "D", Change::new("Type", table::TYPE, "6"))
 }
 
 // Of two faults the first by position counts.
 fn first_of_two(rt: &impl Print) -> io::Result<()> {
-    let kind = Kind::Data;
-    coded(rt, b"X", b"star", table::RECORD_STAR, b"x")?;
-    cases::two(
-        rt,
-        kind,
-        b"State",
-        table::STATE,
-        b"Or",
-        b"House Number",
-        table::HOUSE_NUMBER,
-        b" 1",
-    )?;
-    cases::two(
-        rt,
-        kind,
-        b"Class",
-        table::CLASS,
-        b"A",
-        b"Type",
-        table::TYPE,
-        b"6",
-    )
+    let state = Change::new("State", table::STATE, "Or");
+    let house = Change::new("House Number", table::HOUSE_NUMBER, " 1");
+    let class = Change::new("Class", table::CLASS, "A");
+    let record_type = Change::new("Type", table::TYPE, "6");
+    coded(rt, "X", Change::new("star", table::RECORD_STAR, "x"))?;
+    cases::two(rt, Kind::Data, state, house)?;
+    cases::two(rt, Kind::Data, class, record_type)
 }
 
 // A field that is not whole is at fault.
 fn shorts(rt: &impl Print) -> io::Result<()> {
-    cases::short(rt, Kind::Data, 511)?;
-    cases::short(rt, Kind::Data, 355)?;
-    cases::short(rt, Kind::Data, 20)?;
-    cases::short(rt, Kind::Data, 0)
+    for n in [511, 355, 20, 0] {
+        cases::short(rt, Kind::Data, n)?;
+    }
+    Ok(())
 }
 
 pub fn run(rt: &impl Print) -> io::Result<()> {
     cases::sample(rt, Kind::Data)?;
     fields(rt)?;
     printable(rt)?;
-    blanks(rt, b"C")?;
-    blanks(rt, b"M")?;
-    blanks(rt, b"D")?;
-    blanks(rt, b"U")?;
+    for code in ["C", "M", "D", "U"] {
+        blanks(rt, code)?;
+    }
     blank_or_good(rt)?;
     first_of_two(rt)?;
     shorts(rt)

@@ -2,6 +2,9 @@
 -- in the part that is lent for it; what the refusals leave known; the size of the file, and the file from its three parts. All but two_none
 -- is over the version v: how many bytes a line, a header and a trailer have is what its shape says.
 -- Assumes nothing.
+use Rattle.std.specs.Option.{is_none}
+use Rattle.std.specs.Prelude.{None}
+use Rattle.std.specs.Int.{from_bool}
 use mathlib.Core.Path.{◌≡◌, ◌∙◌, refl, sym, ap}
 use mathlib.Core.Bool.{Bool, true, false, ◌&&◌, cond}
 use mathlib.Core.List.{List, [], ◌++◌, append_assoc, append-nil}
@@ -11,7 +14,7 @@ use native.Mathlib.Nat.{le_trans, sub-zero, zero-mul, add-mul, mul-le-mul_right,
 use native.Mathlib.Decide.{dec_lt}
 use native.Mathlib.Omega.{arith}
 use lib.Dec.{eqb}
-use lib.ListN.{drop_of_length-le, length, take, drop, length-append, length-drop, take-append-drop}
+use lib.ListN.{drop_of_length-le, length, take, drop, length-append, length-drop}
 use lib.Seq.{take_at, drop-append-add, drop-drop, drop_at, drop-length}
 use Rattle.text.specs.Text.{put_at}
 use Rattle.text.proofs.Laws.{and_left, and_false}
@@ -22,8 +25,7 @@ use Rattle.versions.specs.declared.Version.{Version}
 use Rattle.versions.specs.declared.Version.TheVariants.{Two}
 use Rattle.versions.specs.Versions.{narrow_of}
 use Rattle.rules.specs.declared.Kind.TheVariants.{Data}
-use Rattle.rules.specs.declared.Found.TheVariants.{Nothing}
-use Rattle.rules.specs.Walks.{find, is_nothing, count}
+use Rattle.rules.specs.Walks.{find, count}
 use Rattle.rules.specs.Slots.{slot_size, good_length, unsound_slot, register_sound, slots, slot_at, record_of}
 use Rattle.rules.specs.Takes.{shape_of, edges}
 use Rattle.rules.specs.Loads.{is_entry, entry_at, entries_in, lines_to, header_for, trailer_for, load_file, load_size, load_header, wide_at}
@@ -35,24 +37,17 @@ use Rattle.rules.proofs.LoadLength.{lines_length, header_length, trailer_length}
 
 -- ---- the count: e of the first i slots have an entry
 
-pub record Counted (p : ℕ → Bool) (n i e : ℕ) : Type 0 where
-  pub within : i ≤ n
-  pub counted : e ≡ count p i
-  pub few : e ≤ i
+-- a test as a number
+one_if : (b : Bool) → from_bool b ≡ cond b 1 0
+one_if true = refl
+one_if false = refl
 
-pub counted_none : (p : ℕ → Bool) (n : ℕ) → Counted p n 0 0
+pub counted_more : (p : ℕ → Bool) (i e r : ℕ) (b : Bool) → (e ≡ count p i) × (e ≤ i) → b ≡ p i → r ≡ from_bool b
+    → (e + r ≡ count p (i + 1)) × (e + r ≤ i + 1)
 unfolding count
-counted_none p n = record { within = omega arith; counted = refl; few = omega arith }
-
-pub counted_more : (p : ℕ → Bool) (n i e r : ℕ) (b : Bool) → Counted p n i e → i < n → b ≡ p i → r ≡ cond b 1 0
-    → Counted p n (i + 1) (e + r)
-unfolding count
-counted_more p n i e r b c t q s =
-    record {
-      within = omega arith;
-      counted = rw (add-one i, c.counted, s, q) refl;
-      few = omega (arith, c.few, at_most_one b, s);
-    }
+counted_more p i e r b c q s =
+    let n = s ∙ one_if b in
+    (rw (add-one i, c.0, n, q) refl, omega (arith, c.1, at_most_one b, n))
 
 -- ---- the header, written over the first n bytes of others and read back from there; the code lends them from 0 to n, which are n - 0
 
@@ -61,11 +56,6 @@ header_put : (v : Version) (date company : List ℕ) (c n : ℕ) (line H : List 
     → H ≡ header_with date company c (length (take (n - 0) (drop 0 line))) → H ≡ header_for v date company c
 unfolding header_for
 header_put v date company c n line H p h x = rw (sub-zero n, part_length 0 n line (omega arith), p) at x
-
--- they are still there
-pub header_room : (n : ℕ) (line H : List ℕ) → n ≤ length line → length H ≡ length (take (n - 0) (drop 0 line))
-    → n ≤ length (H ++ drop (n - 0) line)
-header_room n line H h l = rw (length-append, l, sub-zero n, part_length 0 n line (omega arith)) (omega arith)
 
 -- and are read by the table for their length, if date and name have theirs
 pub header_read : (v : Version) (date company : List ℕ) (c n : ℕ) (t line H : List ℕ) → n ≡ (shape_of (Data v)).frame → n ≤ length line
@@ -95,16 +85,6 @@ line_room u at out h = ap (λ (n : ℕ). length (take n (drop at out))) (add-sub
 pub entry_room : (b : Bool) (w u at n : ℕ) → b ≡ true → u ≡ w → at + cond b w 0 ≤ n → at + u ≤ n
 entry_room b w u at n e p h = rw (e, ← p) at h
 
--- what comes back with it, and without an entry
-pub entry_back : (b : Bool) (w u at : ℕ) (x line out : List ℕ) → b ≡ true → u ≡ w → line ≡ x
-    → (at + u ≡ at + cond b w 0)
-    × (take at out ++ (line ++ drop (at + u - at) (drop at out)) ≡ take at out ++ (cond b x [] ++ drop (at + u) out))
-entry_back b w u at x line out e p q = (rw (e, p) refl, rw (e, q, add-sub_cancel_left at u, drop-drop) refl)
-
-pub entry_none : (b : Bool) (w at : ℕ) (x out : List ℕ) → b ≡ false
-    → (at ≡ at + cond b w 0) × (out ≡ take at out ++ (cond b x [] ++ drop at out))
-entry_none b w at x out e = (rw e (omega arith), rw e (sym (take-append-drop at out)))
-
 -- ---- the records: those of the first i slots are written over the old bytes, up to `at`
 
 -- more places are counted the further it goes
@@ -116,11 +96,6 @@ count_le p i (suc n) h = go (λ l. count_le p i n l) (dec_lt i (suc n))
     go : (i ≤ n → count p i ≤ count p n) → Dec (i < suc n) → count p i ≤ count p (suc n)
     go ih (yes l) = omega (arith, ih (omega arith))
     go ih (no l) = let z : i ≡ suc n = omega arith in rw z (omega arith)
-
-count_most : (p : ℕ → Bool) (n : ℕ) → count p n ≤ n
-unfolding count
-count_most p zero = omega arith
-count_most p (suc n) = omega (arith, count_most p n, at_most_one (p n))
 
 pub record Laid (v : Version) (R old : List ℕ) (i at : ℕ) (new : List ℕ) : Type 0 where
   pub within : i ≤ slots R
@@ -191,21 +166,16 @@ module _ (v : Version) (R old : List ℕ) where
 -- ---- the refusals
 
 -- every record fits in Version 2
-pub two_none : (R : List ℕ) → find (wide_at Two R) (slots R) ≡ Nothing
+pub two_none : (R : List ℕ) → find (wide_at Two R) (slots R) ≡ None
 unfolding wide_at
 two_none R = find_nowhere (wide_at Two R) (slots R) (λ i h. and_false (is_entry (slot_at R i)))
 
 -- a sound register has at most 4096 slots
 pub few_slots : (R : List ℕ) → register_sound R ≡ true → slots R ≤ 4096
 unfolding register_sound
-few_slots R s = long_few R (and_left (good_length slot_size R) (is_nothing (find (unsound_slot R) (slots R))) s)
+few_slots R s = long_few R (and_left (good_length slot_size R) (is_none (find (unsound_slot R) (slots R))) s)
 
 -- ---- the file
-
--- a register of at most 4096 slots has few entries
-pub entries_few : (R : List ℕ) (e : ℕ) → e ≡ entries_in R → slots R ≤ 4096 → e ≤ 4096
-unfolding entries_in
-entries_few R e q h = omega (arith, count_most (entry_at R) (slots R))
 
 -- the size of the file, from the count of its entries
 pub size_of : (v : Version) (R : List ℕ) (e : ℕ) → e ≡ entries_in R → edges (Data v) + e * (shape_of (Data v)).line ≡ load_size v R
@@ -255,12 +225,6 @@ module _ (v : Version) (R : List ℕ) (e f k : ℕ) (old : List ℕ) (q : e ≡ 
   lines_part H h =
       let between : k - f - f ≡ e * (shape_of (Data v)).line = omega (arith, p, s) in
       rw (sub-zero f, drop_at H (drop f old) f h, between) (part_length f (e * (shape_of (Data v)).line) old (omega (arith, p, s, file_room)))
-
-  pub lines_room : (H : List ℕ) → length H ≡ length (take (f - 0) (drop 0 old))
-      → entries_in R * (shape_of (Data v)).line ≤ length (take (k - f - f) (drop f (headed f H old)))
-  lines_room H l =
-      let h : length H ≡ f = l ∙ (rw (sub-zero f) (part_length 0 f old (omega (arith, p, s, file_room)))) in
-      rw (lines_part H h, q) (omega arith)
 
   pub file_written : (date company : List ℕ) (c : ℕ) (H L T : List ℕ)
       → H ≡ header_with date company c (length (take (f - 0) (drop 0 old)))

@@ -10,7 +10,7 @@ ghost use Rattle.text.specs.Text.{same_bytes};
 
 use calendar::Day;
 use layout::{field, place};
-use rules::{Found, Sought, states};
+use rules::{Sought, states};
 
 // State, day and three bytes of zero stand before the record.
 const RECORD_AT: usize = 8;
@@ -21,28 +21,14 @@ pub const SLOT: usize = RECORD_AT + place::RECORD_SIZE;
 // How many days a number rests before its slot may be used anew.
 const REST: u32 = 90;
 
-// The bytes of slot i as far as they are there: behind the last whole slot there is only what is left, and then nothing.
-fn left_at(register: &[u8], i: usize) -> &[u8]
-    ensures { result.now ≡ slot_at register.now i }
-{
-    if i <= register.len() / SLOT {
-        return text::part_of(register, i * SLOT, SLOT);
-    }
-    &register[0..0]
-}
-
-// Slot i of the register. A whole slot is told apart first: with its length known, what is read from it is read without a test.
+// Slot i of the register, as far as it is there.
 pub fn slot_at(register: &[u8], i: usize) -> &[u8]
     ensures { result.now ≡ slot_at register.now i }
 {
-    if i < register.len() / SLOT {
-        let a = i * SLOT;
-        let e = a + SLOT;
-        return &register[a..e];
-    }
-    left_at(register, i)
+    walks::place_at::<SLOT>(register, i)
 }
 
+#[tactic(auto, unfolding(rules::specs::Slots::state_of))]
 pub fn state(slot: &[u8]) -> u8
     ensures { result ≡ state_of slot.now }
 {
@@ -63,6 +49,7 @@ pub fn is_live(state: u8) -> bool
     (state == states::HELD) | (state == states::OPEN)
 }
 
+#[tactic(auto, unfolding(rules::specs::Slots::slot_day))]
 pub fn day(slot: &[u8]) -> Day
     ensures { result ≡ slot_day slot.now }
 {
@@ -75,6 +62,7 @@ pub fn day(slot: &[u8]) -> Day
 }
 
 // The record in a slot.
+#[tactic(auto, unfolding(rules::specs::Slots::record_of))]
 pub fn rec(slot: &[u8]) -> &[u8]
     ensures { result.now ≡ record_of slot.now }
 {
@@ -85,50 +73,26 @@ pub fn rec(slot: &[u8]) -> &[u8]
 const LAST_EIGHT: usize = place::NUMBER_SIZE - 8;
 
 // Whether two numbers are the same. Numbers of one area differ in their last digits: of ten, the last eight, a word, are looked at first.
+#[tactic(auto, using(text::proofs::Laws::eight_not))]
 fn is_same_number(a: &[u8], b: &[u8]) -> bool
     ensures { result ≡ same_bytes a.now b.now }
 {
-    if place::NUMBER_SIZE <= a.len() {
-        if place::NUMBER_SIZE <= b.len() {
-            if !text::are_eight_same(a, b, LAST_EIGHT) {
-                return false;
-            }
-        }
-    }
-    text::same(a, b)
+    let is_short = a.len() < place::NUMBER_SIZE || b.len() < place::NUMBER_SIZE;
+    (is_short || text::are_eight_same(a, b, LAST_EIGHT)) && text::same(a, b)
 }
 
 // A used slot with this number. Where the number differs, as it nearly always does, the state byte is not looked at.
 fn is_of(slot: &[u8], number: &[u8]) -> bool
     ensures { result ≡ is_of number.now slot.now }
 {
-    if is_same_number(field::number(rec(slot)), number) {
-        return is_used(state(slot));
-    }
-    false
+    is_same_number(field::number(rec(slot)), number) && is_used(state(slot))
 }
 
 // The lowest used slot with this number.
 pub fn find_number(register: &[u8], number: &[u8]) -> Sought
     ensures { result ≡ sought (has_number number.now register.now) (slots register.now) }
 {
-    let n = register.len() / SLOT;
-    let mut i: usize = 0;
-    while i < n {
-        let a = i * SLOT;
-        let e = a + SLOT;
-        if is_of(&register[a..e], number) {
-            return Sought {
-                found: Found::At(i),
-                looked: i + 1,
-            };
-        }
-        i += 1;
-    }
-    Sought {
-        found: Found::Nothing,
-        looked: i,
-    }
+    walks::seek::<SLOT, _>(register, |slot| is_of(slot, number))
 }
 
 fn is_free_slot(slot: &[u8]) -> bool
@@ -141,92 +105,40 @@ fn is_free_slot(slot: &[u8]) -> bool
 pub fn find_free(register: &[u8]) -> Sought
     ensures { result ≡ sought (free_at register.now) (slots register.now) }
 {
-    let n = register.len() / SLOT;
-    let mut i: usize = 0;
-    while i < n {
-        let a = i * SLOT;
-        let e = a + SLOT;
-        if is_free_slot(&register[a..e]) {
-            return Sought {
-                found: Found::At(i),
-                looked: i + 1,
-            };
-        }
-        i += 1;
-    }
-    Sought {
-        found: Found::Nothing,
-        looked: i,
-    }
+    walks::seek::<SLOT, _>(register, is_free_slot)
 }
 
 // A slot that rests for 90 days or more.
+#[tactic(auto, unfolding(rules::specs::Records::is_reusable))]
 fn may_reuse(slot: &[u8], today: Day) -> bool
     ensures { result ≡ is_reusable today slot.now }
 {
-    if state(slot) == states::RESTING {
-        return day(slot).is_past(REST, today);
-    }
-    false
+    state(slot) == states::RESTING && day(slot).is_past(REST, today)
 }
 
 // The lowest resting slot that may be used anew.
 pub fn find_reusable(register: &[u8], today: Day) -> Sought
     ensures { result ≡ sought (reusable_at today register.now) (slots register.now) }
 {
-    let n = register.len() / SLOT;
-    let mut i: usize = 0;
-    while i < n {
-        let a = i * SLOT;
-        let e = a + SLOT;
-        if may_reuse(&register[a..e], today) {
-            return Sought {
-                found: Found::At(i),
-                looked: i + 1,
-            };
-        }
-        i += 1;
-    }
-    Sought {
-        found: Found::Nothing,
-        looked: i,
-    }
+    walks::seek::<SLOT, _>(register, |slot| may_reuse(slot, today))
 }
 
 // A held or open entry under a row.
 fn is_entry_under(slot: &[u8], row: &[u8]) -> bool
     ensures { result ≡ is_entry_under row.now slot.now }
 {
-    if is_live(state(slot)) {
-        return cover::does_cover(row, rec(slot));
-    }
-    false
+    is_live(state(slot)) && cover::does_cover(row, rec(slot))
 }
 
 // The lowest held or open entry under a row.
 pub fn find_entry(register: &[u8], row: &[u8]) -> Sought
     ensures { result ≡ sought (entry_under row.now register.now) (slots register.now) }
 {
-    let n = register.len() / SLOT;
-    let mut i: usize = 0;
-    while i < n {
-        let a = i * SLOT;
-        let e = a + SLOT;
-        if is_entry_under(&register[a..e], row) {
-            return Sought {
-                found: Found::At(i),
-                looked: i + 1,
-            };
-        }
-        i += 1;
-    }
-    Sought {
-        found: Found::Nothing,
-        looked: i,
-    }
+    walks::seek::<SLOT, _>(register, |slot| is_entry_under(slot, row))
 }
 
 // Another state and day in a slot that has room for its head; the record stays.
+#[tactic(auto, unfolding(rules::specs::Slots::restated))]
 pub fn restate(slot: &mut [u8], state: u8, day: Day)
     ensures { slot.new ≡ restated state day slot.old }
 {
@@ -236,6 +148,7 @@ pub fn restate(slot: &mut [u8], state: u8, day: Day)
 }
 
 // State, day and record of a slot, each where it has room for them.
+#[tactic(auto, unfolding(rules::specs::Slots::written))]
 fn write_slot(slot: &mut [u8], state: u8, day: Day, rec: &[u8])
     ensures { slot.new ≡ written state day rec.now slot.old }
 {

@@ -1,5 +1,7 @@
 -- The first demand: every file, register and guide handed over is answered, and each promise admits one outcome.
 -- Assumes nothing.
+use Rattle.std.specs.Option.{is_none, option_or}
+use Rattle.std.specs.Prelude.{Option, Some, None, Result, Ok, Err}
 use mathlib.Core.Path.{◌≡◌, refl, sym, ap, ◌∙◌}
 use mathlib.Core.Logic.{◌≢◌}
 use mathlib.Core.Bool.{Bool, true, false, ◌&&◌, ◌||◌, cond}
@@ -10,14 +12,11 @@ use lib.Dec.{leb, eqb}
 use lib.ListN.{length, drop, get_or, get_or-append}
 use lib.Seq.{drop_at}
 use borrow.Author.Tests.{eqb-false, ne_eqb}
-use Rattle.text.specs.Text.{member_of}
+use Rattle.text.specs.Text.{member_of, on_some}
 use Rattle.text.proofs.Laws.{and_left, and_right, and_false}
 use Rattle.calendar.specs.declared.Day.{Day}
 use Rattle.layout.specs.declared.frame.Header.{Header}
-use Rattle.layout.specs.declared.frame.Opened.{Opened}
-use Rattle.layout.specs.declared.frame.Opened.TheVariants.{Header as a_header, Wrong as no_header}
 use Rattle.layout.specs.Fields.{number_of}
-use Rattle.layout.specs.Frames.{on_header}
 use Rattle.layout.specs.Counters.{given_cycle}
 use Rattle.versions.specs.declared.Version.{Version}
 use Rattle.versions.specs.declared.Version.TheVariants.{One, Two}
@@ -25,18 +24,12 @@ use Rattle.rules.specs.declared.Code.{Code}
 use Rattle.rules.specs.declared.Code.TheVariants.{Insert, Change, Delete, Unlock, Migrate}
 use Rattle.rules.specs.declared.Kind.{Kind}
 use Rattle.rules.specs.declared.Kind.TheVariants.{Data, Guide}
-use Rattle.rules.specs.declared.Filed.{Filed}
-use Rattle.rules.specs.declared.Filed.TheVariants.{Record, NoRecord}
 use Rattle.rules.specs.declared.RowCode.{RowCode}
-use Rattle.rules.specs.declared.RowCode.TheVariants.{Insert as InsertRow, Delete as DeleteRow, NoCode}
+use Rattle.rules.specs.declared.RowCode.TheVariants.{Insert as InsertRow, Delete as DeleteRow}
 use Rattle.rules.specs.declared.Seen.{Seen}
-use Rattle.rules.specs.declared.Checked.{Checked}
-use Rattle.rules.specs.declared.Checked.TheVariants.{Good, Refused}
 use Rattle.rules.specs.declared.Refusal.{Refusal}
 use Rattle.rules.specs.declared.Taken.{Taken}
-use Rattle.rules.specs.declared.Found.{Found}
-use Rattle.rules.specs.declared.Found.TheVariants.{At, Nothing}
-use Rattle.rules.specs.Walks.{find, or_else, is_nothing, on_found}
+use Rattle.rules.specs.Walks.{find}
 use Rattle.rules.specs.Slots.{slots, slot_at, good_length, register_sound}
 use Rattle.rules.specs.Records.{filed_of, is_insert, find_number, find_row, free_at, reusable_at, find_free, find_reusable, find_spare, table, answer_of, Step, step, applied}
 use Rattle.rules.specs.Rows.{row_code_of, find_clash, find_vacant, find_same, insert_table, delete_table, row_answer_of, RowStep, row_applied}
@@ -46,7 +39,7 @@ use Rattle.rules.specs.Lookups.{is_number, seen_in, unseen, seen, packed}
 use Rattle.rules.specs.Loads.{is_entry, load_size, load_header, later_at, wide_at, narrow_refusal, wide_slot, header_refusal, load_refusal, refused_load, written_load, loaded}
 use Rattle.rules.specs.Answered.{take_numbers, record_numbers, answer_numbers, load_numbers, lookup_numbers, TakeRefused, NoneHits, TakeDone, TakeAnswered, TakesAnswer, LinesAnswer, Full, FullsAnswer, LoadAnswered, LoadsAnswer, LookupsAnswer, OneData, OneGuide, OneLoad, OneLookup}
 use Rattle.rules.specs.Answered.{ChecksAnswer, OneCheck}
-use Rattle.rules.proofs.WalkLaws.{clash-bool, find_some, find_none, find_nowhere, is_nothing_lem, numbers_in, first_in, hit_by, first_hit, first_some}
+use Rattle.rules.proofs.WalkLaws.{clash-bool, find_some, find_none, find_nowhere, is_none_lem, numbers_in, first_in, hit_by, first_hit, first_some}
 use Rattle.rules.proofs.TakeLaws.{line_not, answers_length, answer_is, done_undone}
 use Rattle.rules.proofs.CheckLaws.{all_foretold}
 use Rattle.rules.proofs.FaultLaws.{line_fault_starts}
@@ -67,18 +60,18 @@ applied_number : (R G : List ℕ) (h : Header) (r : List ℕ) → member_of (app
 unfolding applied step answer_of numbers_in
 applied_number R G h r = go (filed_of r)
   where
-    go : (f : Filed) → member_of (step R G h r f).answer record_numbers ≡ true
-    go NoRecord = refl
-    go (Record c d) =
+    go : (f : Option (Code × Day)) → member_of (step R G h r f).answer record_numbers ≡ true
+    go None = refl
+    go (Some (c, d)) =
         picked (λ (s : Step). s.answer) record_numbers (eqb (answer_of R G h r c d) 0) _ _ refl
         (first_in record_numbers (table R G h r c d (find_number (number_of r) R) (find_row r G) (find_spare h.day R)) refl refl)
 
 -- a row by a number of its tables
-row_number : (R G g : List ℕ) (c : RowCode) → member_of (row_answer_of R G g c) (answer_numbers Guide) ≡ true
+row_number : (R G g : List ℕ) (c : Option RowCode) → member_of (row_answer_of R G g c) (answer_numbers Guide) ≡ true
 unfolding numbers_in
-row_number R G g InsertRow = first_in (answer_numbers Guide) (insert_table (find_clash g G) (find_vacant G)) refl refl
-row_number R G g DeleteRow = first_in (answer_numbers Guide) (delete_table R G (find_same g G)) refl refl
-row_number R G g NoCode = refl
+row_number R G g (Some InsertRow) = first_in (answer_numbers Guide) (insert_table (find_clash g G) (find_vacant G)) refl refl
+row_number R G g (Some DeleteRow) = first_in (answer_numbers Guide) (delete_table R G (find_same g G)) refl refl
+row_number R G g None = refl
 
 -- also where the guide that it leaves stands beside it
 row_applied_number : (R G : List ℕ) (h : Header) (g : List ℕ) → member_of (row_applied R G h g).answer (answer_numbers Guide) ≡ true
@@ -108,26 +101,26 @@ insert_is Unlock e = clash-bool e refl
 insert_is Migrate e = clash-bool e refl
 
 -- of two searches, the second only where the first found nothing, neither found anything
-both_nothing : (a b : Found) → is_nothing (or_else a b) ≡ true → (a ≡ Nothing) × (b ≡ Nothing)
-both_nothing (At i) b e = clash-bool e refl
-both_nothing Nothing b e = (refl, is_nothing_lem b e)
+both_nothing : (a b : Option ℕ) → is_none (option_or a b) ≡ true → (a ≡ None) × (b ≡ None)
+both_nothing (Some i) b e = clash-bool e refl
+both_nothing None b e = (refl, is_none_lem b e)
 
 module _ (R G : List ℕ) (h : Header) (r : List ℕ) (c : Code) (d : Day) where
   -- the last test of the table
   abbrev is_full : Bool
-  is_full = is_insert c && (is_nothing (find_number (number_of r) R) && is_nothing (find_spare h.day R))
+  is_full = is_insert c && (is_none (find_number (number_of r) R) && is_none (find_spare h.day R))
 
   -- says that it is I, and that the number, a free slot and a reusable one were each sought in vain
   full_of : is_full ≡ true → Full R h r c
   unfolding find_spare find_free find_reusable free_at reusable_at
   full_of e =
-      let n = is_nothing (find_number (number_of r) R) in
-      let p = is_nothing (find_spare h.day R) in
+      let n = is_none (find_number (number_of r) R) in
+      let p = is_none (find_spare h.day R) in
       let v = and_right (is_insert c) (n && p) e in
       let b = both_nothing (find_free R) (find_reusable h.day R) (and_right n p v) in
       record {
         insert = insert_is c (and_left (is_insert c) (n && p) e);
-        absent = is_nothing_lem (find_number (number_of r) R) (and_left n p v);
+        absent = is_none_lem (find_number (number_of r) R) (and_left n p v);
         free = find_none (free_at R) (slots R) b.0;
         reusable = find_none (reusable_at h.day R) (slots R) b.1;
       }
@@ -160,17 +153,17 @@ full_answered R G h r c d =
 
 module _ (k : Kind) (s : Stores) (f answers : List ℕ) (last : ℕ) where
   -- what a take makes of what the checks say, where they say it
-  abbrev outcome : Checked → Type 0
+  abbrev outcome : Result Header Refusal → Type 0
   outcome c =
       checked k s f (length answers) (given_cycle last) ≡ c
       → TakeAnswered k s f answers last
       (on_checked c (λ h. applied_file k h s f answers) (λ r. refused_file r s answers last))
 
   -- where none of the nine tests hits, nothing is refused
-  not_refused : {A : Type 0} (r : Refusal) → checked k s f (length answers) (given_cycle last) ≡ Refused r
+  not_refused : {A : Type 0} (r : Refusal) → checked k s f (length answers) (given_cycle last) ≡ Err r
       → (h : Header) → NoneHits k s f (length answers) (given_cycle last) h → A
   not_refused r q h p =
-      let e : Refused r ≡ Good h = sym q ∙ passed_good k s f (length answers) (given_cycle last) h p in
+      let e : Err r ≡ Ok h = sym q ∙ passed_good k s f (length answers) (given_cycle last) h p in
       let z : ◌≡◌ {A = ℕ} 0 1 = cc in
       absurd (omega arith)
 
@@ -196,7 +189,7 @@ module _ (k : Kind) (s : Stores) (f answers : List ℕ) (last : ℕ) where
 
   -- by 9: the place is that of a line, and the position that of a field
   refused_line : (i : ℕ) → BadLine k f i
-      → outcome (Refused (record { number = 9; place = i + 1; position = line_fault k (line_at k f i) }))
+      → outcome (Err (record { number = 9; place = i + 1; position = line_fault k (line_at k f i) }))
   unfolding refused_file
   refused_line i b q =
       record {
@@ -233,7 +226,7 @@ module _ (k : Kind) (s : Stores) (f answers : List ℕ) (last : ℕ) where
       }
 
   -- by 0, with place and position 0
-  taken_file : (h : Header) → NoneHits k s f (length answers) (given_cycle last) h → outcome (Good h)
+  taken_file : (h : Header) → NoneHits k s f (length answers) (given_cycle last) h → outcome (Ok h)
   unfolding applied_file
   taken_file h g q =
       record {
@@ -290,7 +283,7 @@ check_answered k s f answers last =
 
 -- P is so of a refusal of a load file, if it is so of each number; of 27, where the lowest entry is given that does not fit
 load_by : (P : ℕ → Type 0) (v : Version) (R date company : List ℕ) (c room : ℕ) → P 0 → P 1 → P 25 → P 26
-    → ((i : ℕ) → find (wide_at v R) (slots R) ≡ At i → P 27) → P (load_refusal v R date company c room)
+    → ((i : ℕ) → find (wide_at v R) (slots R) ≡ Some i → P 27) → P (load_refusal v R date company c room)
 unfolding load_refusal header_refusal narrow_refusal
 load_by P v R date company c room p0 p1 p25 p26 p27 = sound (register_sound R)
   where
@@ -298,17 +291,17 @@ load_by P v R date company c room p0 p1 p25 p26 p27 = sound (register_sound R)
     long true = p0
     long false = p25
 
-    fits : (o : Found) → find (wide_at v R) (slots R) ≡ o → P (on_found o (cond (leb (load_size v R) room) 0 25) (λ i. 27))
-    fits Nothing q = long (leb (load_size v R) room)
-    fits (At i) q = p27 i q
+    fits : (o : Option ℕ) → find (wide_at v R) (slots R) ≡ o → P (on_some o (cond (leb (load_size v R) room) 0 25) (λ i. 27))
+    fits None q = long (leb (load_size v R) room)
+    fits (Some i) q = p27 i q
 
-    found : (o : Found) → P (on_found o (narrow_refusal v R room) (λ i. 26))
-    found Nothing = fits (find (wide_at v R) (slots R)) refl
-    found (At i) = p26
+    found : (o : Option ℕ) → P (on_some o (narrow_refusal v R room) (λ i. 26))
+    found None = fits (find (wide_at v R) (slots R)) refl
+    found (Some i) = p26
 
-    opened : (o : Opened) → P (on_header o 26 (λ h. on_found (find (later_at h.day R) (slots R)) (narrow_refusal v R room) (λ i. 26)))
-    opened no_header = p26
-    opened (a_header h) = found (find (later_at h.day R) (slots R))
+    opened : (o : Option Header) → P (on_some o 26 (λ h. on_some (find (later_at h.day R) (slots R)) (narrow_refusal v R room) (λ i. 26)))
+    opened None = p26
+    opened (Some h) = found (find (later_at h.day R) (slots R))
 
     sound : (b : Bool) → P (cond b (header_refusal v R date company c room) 1)
     sound true = opened (load_header v date company c)
@@ -328,7 +321,7 @@ load_number Two R date company c room =
     clash-bool (find_some (wide_at Two R) (slots R) i e).1 (two_fits R i))
 
 -- 27 has the slot of that entry, and no other refusal has one
-wide_slot_lem : (v : Version) (R : List ℕ) (i : ℕ) → find (wide_at v R) (slots R) ≡ At i → wide_slot v R 27 ≡ i
+wide_slot_lem : (v : Version) (R : List ℕ) (i : ℕ) → find (wide_at v R) (slots R) ≡ Some i → wide_slot v R 27 ≡ i
 unfolding wide_slot
 wide_slot_lem v R i e = rw e refl
 
@@ -337,11 +330,11 @@ unfolding wide_slot
 no_slot v R n e = rw (ne_eqb n 27 e) refl
 
 load_slot : (v : Version) (R date company : List ℕ) (c room : ℕ) → load_refusal v R date company c room ≡ 27
-    → find (wide_at v R) (slots R) ≡ At (wide_slot v R (load_refusal v R date company c room))
+    → find (wide_at v R) (slots R) ≡ Some (wide_slot v R (load_refusal v R date company c room))
 load_slot v R date company c room =
-    load_by (λ n. n ≡ 27 → find (wide_at v R) (slots R) ≡ At (wide_slot v R n)) v R date company c room
+    load_by (λ n. n ≡ 27 → find (wide_at v R) (slots R) ≡ Some (wide_slot v R n)) v R date company c room
     (λ e. absurd (omega arith)) (λ e. absurd (omega arith)) (λ e. absurd (omega arith)) (λ e. absurd (omega arith))
-    (λ i f e. f ∙ ap At (sym (wide_slot_lem v R i f)))
+    (λ i f e. f ∙ ap Some (sym (wide_slot_lem v R i f)))
 
 -- DEMAND 1, of a load file: it is written whole, or refused with nothing written
 pub load_answered : LoadsAnswer

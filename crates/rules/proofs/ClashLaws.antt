@@ -1,5 +1,6 @@
 -- Two rows clash exactly if some house number of one street in one place is covered by both; the same row has the same numbers.
 -- Assumes nothing.
+use Rattle.std.specs.Prelude.{Option, Some, None}
 use mathlib.Core.Path.{◌≡◌, refl, sym, ap, ◌∙◌}
 use mathlib.Core.Logic.{◌⊎◌, inl, inr}
 use mathlib.Core.Bool.{Bool, true, false, ◌&&◌, ◌||◌}
@@ -9,9 +10,7 @@ use native.Mathlib.Decide.{ℕ_discrete}
 use native.Mathlib.Omega.{arith}
 use lib.Dec.{leb, eqb}
 use borrow.Author.Tests.{leb-true, le-leb, eqb-true}
-use Rattle.text.specs.declared.Spelled.{Spelled}
-use Rattle.text.specs.declared.Spelled.TheVariants.{Number, NoNumber}
-use Rattle.text.specs.Text.{same_bytes, on_number}
+use Rattle.text.specs.Text.{same_bytes, on_some}
 use Rattle.text.proofs.Laws.{and_left, and_right, or_left, or_right, same_true, same_refl}
 use Rattle.layout.specs.Fields.{house_of, street_of, place_of, row_street_of, row_place_of, low_of, high_of, parity_of, allows, row_esn_of, same_esn}
 use Rattle.rules.specs.Covers.{hits, over, covers, same_street, both_allow, meet_from, meets, clash, Shared, ClashExactly, equal_numbers, same_row, SameAlike}
@@ -79,8 +78,8 @@ both p q low high e = go (leb low high && both_allow p q low) refl e
 pub record Hit (g : List ℕ) (n : ℕ) : Type 0 where
   pub low : ℕ
   pub high : ℕ
-  pub is_low : low_of g ≡ Number low
-  pub is_high : high_of g ≡ Number high
+  pub is_low : low_of g ≡ Some low
+  pub is_high : high_of g ≡ Some high
   pub above : low ≤ n
   pub below : n ≤ high
   pub allowed : allows (parity_of g) n ≡ true
@@ -90,9 +89,9 @@ pub hit_of : (g : List ℕ) (n : ℕ) → hits g n ≡ true → Hit g n
 unfolding hits
 hit_of g n e = go (low_of g) refl (high_of g) refl e
   where
-    go : (a : Spelled) → low_of g ≡ a → (b : Spelled) → high_of g ≡ b
-        → on_number a false (λ low. on_number b false (λ high. leb low n && (leb n high && allows (parity_of g) n))) ≡ true → Hit g n
-    go (Number low) p (Number high) q e =
+    go : (a : Option ℕ) → low_of g ≡ a → (b : Option ℕ) → high_of g ≡ b
+        → on_some a false (λ low. on_some b false (λ high. leb low n && (leb n high && allows (parity_of g) n))) ≡ true → Hit g n
+    go (Some low) p (Some high) q e =
         let t = leb n high && allows (parity_of g) n in
         let v = and_right (leb low n) t e in
         record {
@@ -104,8 +103,8 @@ hit_of g n e = go (low_of g) refl (high_of g) refl e
           below = leb-true n high (and_left (leb n high) (allows (parity_of g) n) v);
           allowed = and_right (leb n high) (allows (parity_of g) n) v;
         }
-    go (Number low) p NoNumber q e = clash-bool e refl
-    go NoNumber p b q e = clash-bool e refl
+    go (Some low) p None q e = clash-bool e refl
+    go None p b q e = clash-bool e refl
 
 pub hits_of : (g : List ℕ) (n : ℕ) → Hit g n → hits g n ≡ true
 unfolding hits
@@ -126,10 +125,10 @@ meets_one : (g h : List ℕ) → meets g h ≡ true → (n : ℕ) × (hits g n �
 unfolding meets
 meets_one g h e = go (low_of g) refl (high_of g) refl (low_of h) refl (high_of h) refl e
   where
-    go : (x : Spelled) → low_of g ≡ x → (y : Spelled) → high_of g ≡ y → (z : Spelled) → low_of h ≡ z → (w : Spelled) → high_of h ≡ w
-        → on_number x false (λ a. on_number y false (λ b. on_number z false (λ c. on_number w false (λ d. meet_from (parity_of g) (parity_of h) (min b d) (max a c))))) ≡ true
+    go : (x : Option ℕ) → low_of g ≡ x → (y : Option ℕ) → high_of g ≡ y → (z : Option ℕ) → low_of h ≡ z → (w : Option ℕ) → high_of h ≡ w
+        → on_some x false (λ a. on_some y false (λ b. on_some z false (λ c. on_some w false (λ d. meet_from (parity_of g) (parity_of h) (min b d) (max a c))))) ≡ true
         → (n : ℕ) × (hits g n ≡ true) × (hits h n ≡ true)
-    go (Number a) p (Number b) q (Number c) r (Number d) s e =
+    go (Some a) p (Some b) q (Some c) r (Some d) s e =
         let m = both (parity_of g) (parity_of h) (max a c) (min b d) e in
         let k : max a c ≤ m.number = m.above in
         let l : m.number ≤ min b d = m.below in (
@@ -137,10 +136,10 @@ meets_one g h e = go (low_of g) refl (high_of g) refl (low_of h) refl (high_of h
           hits_of g m.number (record { low = a; high = b; is_low = p; is_high = q; above = omega arith; below = omega arith; allowed = m.by_p }),
           hits_of h m.number (record { low = c; high = d; is_low = r; is_high = s; above = omega arith; below = omega arith; allowed = m.by_q }),
         )
-    go (Number a) p (Number b) q (Number c) r NoNumber s e = clash-bool e refl
-    go (Number a) p (Number b) q NoNumber r w s e = clash-bool e refl
-    go (Number a) p NoNumber q z r w s e = clash-bool e refl
-    go NoNumber p y q z r w s e = clash-bool e refl
+    go (Some a) p (Some b) q (Some c) r None s e = clash-bool e refl
+    go (Some a) p (Some b) q None r w s e = clash-bool e refl
+    go (Some a) p None q z r w s e = clash-bool e refl
+    go None p y q z r w s e = clash-bool e refl
 
 -- ---- a row over a house number
 
@@ -168,7 +167,7 @@ unfolding over
 over_of g s t n o = rw (o.street, o.town, same_refl s, same_refl t) o.hit
 
 -- a row covers a record exactly if it stands over its house number
-pub covers_over : (g r : List ℕ) → covers g r ≡ on_number (house_of r) false (λ n. over g (street_of r) (place_of r) n)
+pub covers_over : (g r : List ℕ) → covers g r ≡ on_some (house_of r) false (λ n. over g (street_of r) (place_of r) n)
 unfolding covers over
 covers_over g r = go (house_of r)
   where
@@ -178,11 +177,11 @@ covers_over g r = go (house_of r)
     none true false = refl
     none false b = refl
 
-    go : (x : Spelled)
-        → same_bytes (row_street_of g) (street_of r) && (same_bytes (row_place_of g) (place_of r) && on_number x false (λ n. hits g n))
-        ≡ on_number x false (λ n. same_bytes (row_street_of g) (street_of r) && (same_bytes (row_place_of g) (place_of r) && hits g n))
-    go (Number n) = refl
-    go NoNumber = none (same_bytes (row_street_of g) (street_of r)) (same_bytes (row_place_of g) (place_of r))
+    go : (x : Option ℕ)
+        → same_bytes (row_street_of g) (street_of r) && (same_bytes (row_place_of g) (place_of r) && on_some x false (λ n. hits g n))
+        ≡ on_some x false (λ n. same_bytes (row_street_of g) (street_of r) && (same_bytes (row_place_of g) (place_of r) && hits g n))
+    go (Some n) = refl
+    go None = none (same_bytes (row_street_of g) (street_of r)) (same_bytes (row_place_of g) (place_of r))
 
 -- ---- the two laws
 
@@ -216,10 +215,10 @@ clash_yes g h c =
 pub clash_covers : (g h : List ℕ) → clash g h ≡ false → (r : List ℕ) → covers g r ≡ true → covers h r ≡ true → ⊥
 clash_covers g h c r u v = go (house_of r) (sym (covers_over g r) ∙ u) (sym (covers_over h r) ∙ v)
   where
-    go : (x : Spelled) → on_number x false (λ n. over g (street_of r) (place_of r) n) ≡ true
-        → on_number x false (λ n. over h (street_of r) (place_of r) n) ≡ true → ⊥
-    go (Number n) u v = clash_no g h c (street_of r) (place_of r) n u v
-    go NoNumber u v = clash-bool u refl
+    go : (x : Option ℕ) → on_some x false (λ n. over g (street_of r) (place_of r) n) ≡ true
+        → on_some x false (λ n. over h (street_of r) (place_of r) n) ≡ true → ⊥
+    go (Some n) u v = clash_no g h c (street_of r) (place_of r) n u v
+    go None u v = clash-bool u refl
 
 -- two rows clash exactly if a house number is over both: the one that clash_yes finds, and any by clash_no
 pub clash_exactly : ClashExactly
@@ -262,7 +261,7 @@ clash_self g n e =
     (clash_exactly g g).1 (record { street = row_street_of g; town = row_place_of g; number = n; first = o; second = o })
 
 -- and a row of good form does: its low end is at most its high end, and of its parity
-pub clash_itself : (g : List ℕ) (a b : ℕ) → low_of g ≡ Number a → high_of g ≡ Number b → a ≤ b → allows (parity_of g) a ≡ true
+pub clash_itself : (g : List ℕ) (a b : ℕ) → low_of g ≡ Some a → high_of g ≡ Some b → a ≤ b → allows (parity_of g) a ≡ true
     → clash g g ≡ true
 clash_itself g a b p q h e =
     clash_self g a
@@ -271,10 +270,10 @@ clash_itself g a b p q h e =
 -- ---- the same row
 
 -- fields that are equal as numbers are read alike
-equal_read : (a b : Spelled) → equal_numbers a b ≡ true → a ≡ b
-equal_read (Number m) (Number n) e = ap Number (eqb-true m n e)
-equal_read (Number m) NoNumber e = clash-bool e refl
-equal_read NoNumber b e = clash-bool e refl
+equal_read : (a b : Option ℕ) → equal_numbers a b ≡ true → a ≡ b
+equal_read (Some m) (Some n) e = ap Some (eqb-true m n e)
+equal_read (Some m) None e = clash-bool e refl
+equal_read None b e = clash-bool e refl
 
 -- so are both ends of the same row, and its street fields, parity and ESN are equal bytes
 pub same_alike : SameAlike

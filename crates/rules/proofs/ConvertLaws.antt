@@ -1,6 +1,8 @@
 -- The conversion of a register. A used slot that is not late becomes the same slot with its day moved (slot_is), another stays; slot j of
 -- the converted register is slot j converted (converted_at). A date whose former day has a reading now has that reading (anew_is of
 -- calendar), so a day that fitted its record's date fits it still, and what was sound by the former reading is sound now. Assumes nothing.
+use Rattle.std.proofs.lemmas.Bool.{not-true}
+use Rattle.std.specs.Prelude.{Option, Some, None}
 use mathlib.Core.Path.{◌≡◌, refl, sym, ap, ◌∙◌}
 use mathlib.Core.Bool.{Bool, true, false, not, ◌&&◌, ◌||◌, cond}
 use mathlib.Core.List.{List, [], ◌∷◌}
@@ -10,26 +12,22 @@ use native.Mathlib.Omega.{arith}
 use lib.Dec.{leb, ltb}
 use lib.ListN.{length}
 use borrow.Author.Tests.{eqb-true, leb-true, leb-false, le-leb, lt-leb, ltb-true, ltb-false, lt-ltb, le-ltb}
-use Rattle.text.specs.Text.{part}
+use Rattle.text.specs.Text.{part, on_some}
 use Rattle.text.proofs.Laws.{and_left, and_right}
 use Rattle.calendar.specs.declared.Day.{Day}
-use Rattle.calendar.specs.declared.Date.{Date}
-use Rattle.calendar.specs.declared.Date.TheVariants.{Day as a_day, NoDate}
 use Rattle.calendar.specs.declared.Reading.TheVariants.{Former}
-use Rattle.calendar.specs.Calendar.{on_day, on_calendar, is_before, day_of}
+use Rattle.calendar.specs.Calendar.{on_calendar, is_before, day_of}
 use Rattle.calendar.specs.Former.{former_of, formerly, anew}
 use Rattle.calendar.proofs.DateLaws.{former_is, formerly_other, anew_is}
 use Rattle.layout.specs.Tables.{data_record, field, date}
 use Rattle.layout.specs.Fields.{date_of}
-use Rattle.rules.specs.declared.Found.{Found}
-use Rattle.rules.specs.declared.Found.TheVariants.{At, Nothing}
 use Rattle.rules.specs.Walks.{find}
 use Rattle.rules.specs.Slots.{slots, slot_at, with_slot, state_of, slot_day, record_of, slot_of, restated, is_free, is_held, is_used, is_live, is_zero}
 use Rattle.rules.specs.Slots.{day_fits, slot_sound, slot_sound_by, register_sound_by}
 use Rattle.rules.specs.Demands.{OneSlot, AllLie}
 use Rattle.rules.specs.Converts.{is_late, late_at, converted_slot, converted_to, conversion}
 use Rattle.rules.specs.Converts.{Moved, ConvertDone, ConvertAnswered, ConvertsAnswer, ConvertKeeps, HeldOnce, OrderStays, DistanceStays, OneConvert}
-use Rattle.rules.proofs.WalkLaws.{clash-bool, and_rest, not_true, find_some, find_none, find_below}
+use Rattle.rules.proofs.WalkLaws.{clash-bool, and_rest, find_some, find_none, find_below}
 use Rattle.rules.proofs.PlaceLaws.{part_length}
 use Rattle.rules.proofs.SlotLaws.{state_slot, day_slot, record_slot, length_slot, restated_slot, record_length, slot_same, slot_other, length_with, length_slot_at, zeros_are, zero_sound}
 use Rattle.rules.proofs.KeepSound.{AllSound, slots_sound, slots_sound_by, register_sound_lem, same_good, zeros_slot, slot_sound_lem, UsedBy, used_by, used_sound_lem}
@@ -37,11 +35,11 @@ use Rattle.rules.proofs.KeepSound.{AllSound, slots_sound, slots_sound_by, regist
 -- ---- a day read anew
 
 -- a day that has a reading is moved
-day_moved : (d x : Day) → anew d ≡ a_day x → x.0 ≡ d.0 + 10957
+day_moved : (d x : Day) → anew d ≡ Some x → x.0 ≡ d.0 + 10957
 day_moved d x e = go (leb d.0 25567) e
   where
-    go : (b : Bool) → cond b (a_day (record { 0 = d.0 + 10957 })) NoDate ≡ a_day x → x.0 ≡ d.0 + 10957
-    go true e = sym (ap (λ (y : Date). on_day y 0 (λ z. z.0)) e)
+    go : (b : Bool) → cond b (Some (record { 0 = d.0 + 10957 })) None ≡ Some x → x.0 ≡ d.0 + 10957
+    go true e = sym (ap (λ (y : Option Day). on_some y 0 (λ z. z.0)) e)
     go false e = let z : ◌≡◌ {A = ℕ} 0 1 = cc in absurd (omega arith)
 
 -- two numbers moved by as much compare as before
@@ -82,10 +80,10 @@ length_converted : (s : List ℕ) → length s ≡ 520 → length (converted_slo
 unfolding converted_slot
 length_converted s l = go _ (is_used (state_of s)) (anew (slot_day s))
   where
-    go : (state : ℕ) (b : Bool) (x : Date) → length (cond b (on_day x s (λ d. restated state d s)) s) ≡ 520
+    go : (state : ℕ) (b : Bool) (x : Option Day) → length (cond b (on_some x s (λ d. restated state d s)) s) ≡ 520
     go state false x = l
-    go state true NoDate = l
-    go state true (a_day d) = ap length (restated_slot state d s l) ∙ length_slot state d (record_of s) (record_length s l)
+    go state true None = l
+    go state true (Some d) = ap length (restated_slot state d s l) ∙ length_slot state d (record_of s) (record_length s l)
 
 -- bytes 5 to 7, where they are zero
 zeros_at : (s : List ℕ) → length s ≡ 520 → is_zero (part 5 3 s) ≡ true → part 5 3 s ≡ 0 ∷ 0 ∷ 0 ∷ []
@@ -108,7 +106,7 @@ no_later_lem : (b : ℕ) (day x : Day) → day_fits b day x ≡ true → x.0 ≤
 unfolding day_fits
 no_later_lem b day x f =
     let t = (not (is_held b) || not (is_before x day)) && on_calendar day in
-    ltb-false day.0 x.0 (not_true (is_before day x) (and_left (not (is_before day x)) t f))
+    ltb-false day.0 x.0 (not-true (is_before day x) (and_left (not (is_before day x)) t f))
 
 -- a used slot that is sound by the former reading, and not late
 module _ (s : List ℕ) (l : length s ≡ 520) (u : is_used (state_of s) ≡ true) (late : is_late s ≡ false) where
@@ -116,10 +114,10 @@ module _ (s : List ℕ) (l : length s ≡ 520) (u : is_used (state_of s) ≡ tru
   early : (slot_day s).0 ≤ 25567
   early =
       go (leb (slot_day s).0 25567) refl
-      (and_rest (is_used (state_of s)) (on_day (anew (slot_day s)) true (λ d. false)) u late)
+      (and_rest (is_used (state_of s)) (on_some (anew (slot_day s)) true (λ d. false)) u late)
     where
       go : (b : Bool) → leb (slot_day s).0 25567 ≡ b
-          → on_day (cond b (a_day (record { 0 = (slot_day s).0 + 10957 })) NoDate) true (λ d. false) ≡ false → (slot_day s).0 ≤ 25567
+          → on_some {A = Day} (cond b (Some (record { 0 = (slot_day s).0 + 10957 })) None) true (λ d. false) ≡ false → (slot_day s).0 ≤ 25567
       go true e q = leb-true (slot_day s).0 25567 e
       go false e q = clash-bool refl q
 
@@ -151,14 +149,14 @@ module _ (s : List ℕ) (l : length s ≡ 520) (u : is_used (state_of s) ≡ tru
         }
 
     -- its day fits the date as it is read now
-    fits_now : on_day (date_of (record_of s)) false (λ x. day_fits (state_of s) then x) ≡ true
+    fits_now : on_some (date_of (record_of s)) false (λ x. day_fits (state_of s) then x) ≡ true
     unfolding date_of
     fits_now = let f = field data_record date (record_of s) in go f (former_of f) refl used.dated
       where
-        go : (f : List ℕ) (x : Date) → former_of f ≡ x → on_day x false (λ d. day_fits (state_of s) (slot_day s) d) ≡ true
-            → on_day (day_of f) false (λ x. day_fits (state_of s) then x) ≡ true
-        go f NoDate e h = clash-bool h refl
-        go f (a_day x) e h =
+        go : (f : List ℕ) (x : Option Day) → former_of f ≡ x → on_some x false (λ d. day_fits (state_of s) (slot_day s) d) ≡ true
+            → on_some (day_of f) false (λ x. day_fits (state_of s) then x) ≡ true
+        go f None e h = clash-bool h refl
+        go f (Some x) e h =
             let y : Day = record { 0 = x.0 + 10957 } in
             let n = no_later_lem (state_of s) (slot_day s) x h in
             rw (anew_is f x e (omega (arith, early))) (fits_moved (state_of s) (slot_day s) x then y refl refl early h)
@@ -240,7 +238,7 @@ module _ (R : List ℕ) where
           ∙ ih (omega arith)
 
   -- all of it
-  module _ (former : register_sound_by Former R ≡ true) (none : find (late_at R) (slots R) ≡ Nothing) where
+  module _ (former : register_sound_by Former R ≡ true) (none : find (late_at R) (slots R) ≡ None) where
     was : AllSound 520 (slot_sound_by Former) R
     was = slots_sound_by Former R former
 
@@ -279,7 +277,7 @@ pub convert_answered : ConvertsAnswer
 unfolding ConvertsAnswer conversion
 convert_answered R = go (register_sound_by Former R) refl (find (late_at R) (slots R)) refl
   where
-    go : (b : Bool) → register_sound_by Former R ≡ b → (o : Found) → find (late_at R) (slots R) ≡ o → ConvertAnswered R (conversion R)
+    go : (b : Bool) → register_sound_by Former R ≡ b → (o : Option ℕ) → find (late_at R) (slots R) ≡ o → ConvertAnswered R (conversion R)
     go false e o f =
         rw e
         record {
@@ -292,7 +290,7 @@ convert_answered R = go (register_sound_by Former R) refl (find (late_at R) (slo
           converted = λ p q. clash-bool p e;
           sized = refl;
         }
-    go true e (At k) f =
+    go true e (Some k) f =
         let h = find_some (late_at R) (slots R) k f in
         rw (e, f)
         record {
@@ -305,7 +303,7 @@ convert_answered R = go (register_sound_by Former R) refl (find (late_at R) (slo
           converted = λ p q. clash-bool h.1 (q k h.0);
           sized = refl;
         }
-    go true e Nothing f =
+    go true e None f =
         rw (e, f)
         record {
           number = refl;
@@ -358,19 +356,19 @@ held_day b day x h f =
     let p = not (is_before day x) in
     let q = not (is_held b) || not (is_before x day) in
     let r : not (is_before x day) ≡ true = rw h at (and_left q (on_calendar day) (and_right p (q && on_calendar day) f)) in
-    let i = ltb-false day.0 x.0 (not_true (is_before day x) (and_left p (q && on_calendar day) f)) in
-    let j = ltb-false x.0 day.0 (not_true (is_before x day) r) in
+    let i = ltb-false day.0 x.0 (not-true (is_before day x) (and_left p (q && on_calendar day) f)) in
+    let j = ltb-false x.0 day.0 (not-true (is_before x day) r) in
     omega arith
 
 -- no day has the number that it had before, so none is the date of a held slot by both readings
-unlike : (f : List ℕ) (b : ℕ) (day : Day) → is_held b ≡ true → on_day (former_of f) false (λ d. day_fits b day d) ≡ true
-    → on_day (day_of f) false (λ d. day_fits b day d) ≡ true → ⊥
+unlike : (f : List ℕ) (b : ℕ) (day : Day) → is_held b ≡ true → on_some (former_of f) false (λ d. day_fits b day d) ≡ true
+    → on_some (day_of f) false (λ d. day_fits b day d) ≡ true → ⊥
 unlike f b day h p q = go (day_of f) (rw (former_is f) at p) q
   where
-    go : (x : Date) → on_day (on_day x NoDate (λ d. a_day (record { 0 = formerly d.0 }))) false (λ d. day_fits b day d) ≡ true
-        → on_day x false (λ d. day_fits b day d) ≡ true → ⊥
-    go NoDate p q = clash-bool q refl
-    go (a_day x) p q = formerly_other x.0 (held_day b day (record { 0 = formerly x.0 }) h p ∙ sym (held_day b day x h q))
+    go : (x : Option Day) → on_some (on_some x None (λ d. Some (record { 0 = formerly d.0 }))) false (λ d. day_fits b day d) ≡ true
+        → on_some x false (λ d. day_fits b day d) ≡ true → ⊥
+    go None p q = clash-bool q refl
+    go (Some x) p q = formerly_other x.0 (held_day b day (record { 0 = formerly x.0 }) h p ∙ sym (held_day b day x h q))
 
 -- and no slot that is sound by both is held
 not_held : (s : List ℕ) → slot_sound_by Former s ≡ true → slot_sound s ≡ true → is_held (state_of s) ≡ false

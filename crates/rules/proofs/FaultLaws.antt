@@ -8,14 +8,13 @@ use Prim.Native.Nat.{ℕ, ◌≤◌}
 use native.Mathlib.Omega.{arith}
 use lib.Dec.{leb, ltb, eqb}
 use borrow.Author.Tests.{leb-true, eqb-true, eq-eqb}
-use Rattle.text.specs.declared.Spelled.{Spelled}
-use Rattle.text.specs.declared.Spelled.TheVariants.{Number, NoNumber}
-use Rattle.text.specs.Text.{part, on_number, member_of}
+use Rattle.text.specs.Text.{part, member_of}
 use Rattle.text.proofs.Laws.{and_left, and_right, or_right}
 use Rattle.layout.specs.Tables.{guide_row, house, low_end, high_end, parity_letter}
 use Rattle.layout.specs.Fields.{function_of, house_in, end_in, low_of, high_of, parity_of, allows}
 use Rattle.layout.specs.Rules.{keeps, house_fault, end_fault, high_fault, parity_fault, is_whole, fault_by, from_zero, fault_in, is_lax, record_fault, row_fault}
 use Rattle.versions.specs.declared.Version.TheVariants.{One, Two}
+use Rattle.text.proofs.Laws.{on_some_lem}
 use Rattle.rules.specs.declared.Kind.{Kind}
 use Rattle.rules.specs.declared.Kind.TheVariants.{Data, Guide}
 use Rattle.rules.specs.Takes.{shape_of, line_fault}
@@ -30,25 +29,20 @@ module _ (P : ℕ → Type 0) where
   on_test true x y p q = p
   on_test false x y p q = q
 
-  -- of a number that is spelled, or is not
-  on_number_lem : (o : Spelled) (x : ℕ) (k : ℕ → ℕ) → P x → ((n : ℕ) → P (k n)) → P (on_number o x k)
-  on_number_lem (Number n) x k p q = q n
-  on_number_lem NoNumber x k p q = p
-
   -- a field's fault is its start, or 0
   fault_by_lem : (at n r : ℕ) (lax : Bool) (s f : List ℕ) → P 0 → P at → P (fault_by at n r lax s f)
   unfolding fault_by house_fault end_fault high_fault parity_fault
   fault_by_lem at n r lax s f z p =
       on_test (is_whole n f) _ at
-      (on_test (eqb r house) _ _ (on_number_lem (house_in f) at (λ n. 0) p (λ n. z))
-      (on_test (eqb r low_end) _ _ (on_number_lem (end_in f) at (λ n. 0) p (λ n. z))
+      (on_test (eqb r house) _ _ (on_some_lem P (house_in f) at (λ n. 0) (λ o. p) (λ n o. z))
+      (on_test (eqb r low_end) _ _ (on_some_lem P (end_in f) at (λ n. 0) (λ o. p) (λ n o. z))
       (on_test (eqb r high_end) _ _
-      (on_number_lem (high_of s) at _ p (λ high.
-      on_number_lem (low_of s) at _ p (λ low.
+      (on_some_lem P (high_of s) at _ (λ o. p) (λ high o.
+      on_some_lem P (low_of s) at _ (λ o. p) (λ low o.
       on_test (ltb high low) at 0 p z)))
       (on_test (eqb r parity_letter) _ _
-      (on_number_lem (low_of s) at _ p (λ low.
-      on_number_lem (high_of s) at _ p (λ high.
+      (on_some_lem P (low_of s) at _ (λ o. p) (λ low o.
+      on_some_lem P (high_of s) at _ (λ o. p) (λ high o.
       on_test (allows (parity_of s) low && allows (parity_of s) high) 0 at z p)))
       (on_test (keeps r lax f) 0 at z p)))))
       p

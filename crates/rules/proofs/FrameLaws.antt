@@ -1,5 +1,7 @@
 -- A header and a trailer that are written: what stands in them, and that the trailer is read back beside its header.
 -- Assumes nothing.
+use Rattle.calendar.specs.declared.Day.{Day}
+use Rattle.std.specs.Prelude.{Option, Some, None}
 use mathlib.Core.Path.{◌≡◌, refl, sym, ap, ◌∙◌}
 use mathlib.Core.Bool.{Bool, true, false, cond}
 use mathlib.Core.List.{List, [], ◌∷◌, ◌++◌}
@@ -10,21 +12,15 @@ use lib.ListN.{length, take, drop, length-append, length-replicate}
 use lib.Seq.{take_at, drop_at, drop-append-add}
 use borrow.Author.Tests.{eqb-true, leb-true, le-leb}
 use Rattle.text.specs.declared.Class.TheVariants.{Printable, Digit}
-use Rattle.text.specs.Text.{in_class, all_in, part, put_at, spaces, digits, width, among_spaces, left_digits, right_digits}
+use Rattle.text.specs.Text.{in_class, all_in, part, put_at, spaces, digits, width, among_spaces, left_digits, right_digits, on_some}
 use Rattle.text.proofs.Laws.{and_left, and_right, same_refl}
 use Rattle.text.proofs.DigitLaws.{all_append, digits_all, left_length, right_length}
 use Rattle.layout.proofs.CounterLaws.{cycle_back, count_back}
-use Rattle.calendar.specs.declared.Date.{Date}
-use Rattle.calendar.specs.declared.Date.TheVariants.{Day as a_day, NoDate}
-use Rattle.calendar.specs.Calendar.{day_of, on_day}
+use Rattle.calendar.specs.Calendar.{day_of}
 use Rattle.layout.specs.declared.frame.Header.{Header}
-use Rattle.layout.specs.declared.frame.Opened.TheVariants.{Header as a_header, Wrong as no_header}
-use Rattle.layout.specs.declared.frame.Closed.TheVariants.{Trailer as a_trailer}
 use Rattle.layout.specs.declared.counter.Cycle.{Cycle}
-use Rattle.layout.specs.declared.counter.Turn.{Turn}
-use Rattle.layout.specs.declared.counter.Turn.TheVariants.{Cycle as a_cycle, NoCycle}
 use Rattle.layout.specs.Tables.{header, header_table, trailer_table, field, cycle, mmddyy, named, closing, tally, free, star}
-use Rattle.layout.specs.Counters.{cycle_of, on_cycle}
+use Rattle.layout.specs.Counters.{cycle_of}
 use Rattle.layout.specs.Rules.{from_zero, is_tally, keeps_frame, keeps_other, keeps, is_whole, fault_by, fault_in}
 use Rattle.layout.specs.Frames.{date_of, name_of, header_of, same_frame, trailer_of, header_letters, trailer_letters, frame_with, header_with, trailer_with}
 use Rattle.versions.specs.declared.Version.{Version}
@@ -155,25 +151,25 @@ print_count n = go (leb (width n) 9)
 -- what a header that is read has in it
 record HeaderRead (v : Version) (s : List ℕ) (h : Header) : Type 0 where
   good : fault_in false s (header_table (frame_of v)) ≡ 0
-  turns : cycle_of (field header cycle s) ≡ a_cycle h.cycle
+  turns : cycle_of (field header cycle s) ≡ Some h.cycle
 
 -- a wrong one is none
-wrong : {A : Type 0} (h : Header) → no_header ≡ a_header h → A
+wrong : {A : Type 0} (h : Header) → None ≡ Some h → A
 wrong h e = let z : ◌≡◌ {A = ℕ} 0 1 = cc in absurd (omega arith)
 
 -- it has them if it is read
-header_read : (v : Version) (s : List ℕ) (h : Header) → header_of (header_table (frame_of v)) s ≡ a_header h → HeaderRead v s h
+header_read : (v : Version) (s : List ℕ) (h : Header) → header_of (header_table (frame_of v)) s ≡ Some h → HeaderRead v s h
 unfolding header_of
 header_read v s h e = go (eqb (fault_in false s (header_table (frame_of v))) 0) refl (day_of (date_of s)) (cycle_of (field header cycle s)) refl e
   where
-    go : (b : Bool) → eqb (fault_in false s (header_table (frame_of v))) 0 ≡ b → (x : Date) (c : Turn) → cycle_of (field header cycle s) ≡ c
-        → cond b (on_day x no_header (λ d. on_cycle c no_header (λ c. a_header (record { day = d; cycle = c })))) no_header ≡ a_header h
+    go : (b : Bool) → eqb (fault_in false s (header_table (frame_of v))) 0 ≡ b → (x : Option Day) (c : Option Cycle) → cycle_of (field header cycle s) ≡ c
+        → cond b (on_some x None (λ d. on_some c None (λ c. Some (record { day = d; cycle = c })))) None ≡ Some h
         → HeaderRead v s h
-    go true p (a_day d) (a_cycle c) q e =
+    go true p (Some d) (Some c) q e =
         let i : record { day = d; cycle = c } ≡ h = cc in
-        record { good = eqb-true (fault_in false s (header_table (frame_of v))) 0 p; turns = q ∙ ap (λ (x : Header). a_cycle x.cycle) i }
-    go true p (a_day d) NoCycle q e = wrong h e
-    go true p NoDate c q e = wrong h e
+        record { good = eqb-true (fault_in false s (header_table (frame_of v))) 0 p; turns = q ∙ ap (λ (x : Header). Some x.cycle) i }
+    go true p (Some d) None q e = wrong h e
+    go true p None c q e = wrong h e
     go false p x c q e = wrong h e
 
 -- the free part and the last byte, computed
@@ -233,13 +229,13 @@ module _ (v : Version) (date company : List ℕ) (b : length date ≡ 6) (c : le
 
   -- the cycle that is read is the one that was written
   pub cycle_read : (t : ℕ) (h : Header) → 1 ≤ t → t ≤ 999999
-      → header_of (header_table (frame_of v)) (header_with date company t (frame_of v)) ≡ a_header h
+      → header_of (header_table (frame_of v)) (header_with date company t (frame_of v)) ≡ Some h
       → h.cycle.0 ≡ t
   cycle_read t h x y e =
       let r = header_read v (header_with date company t (frame_of v)) h e in
       let i : field header cycle (header_with date company t (frame_of v)) ≡ left_digits t (spaces 6) =
       ap (part 61 6) (header_is t) ∙ opened_cycle t in
-      let j : a_cycle h.cycle ≡ a_cycle (record { 0 = t }) = sym r.turns ∙ ap cycle_of i ∙ cycle_back t x y in
+      let j : Some h.cycle ≡ Some (record { 0 = t }) = sym r.turns ∙ ap cycle_of i ∙ cycle_back t x y in
       let k : h.cycle ≡ record { 0 = t } = cc in
       ap (λ (x : Cycle). x.0) k
 
@@ -278,9 +274,9 @@ module _ (v : Version) (date company : List ℕ) (b : length date ≡ 6) (c : le
 
   -- the trailer is read back beside its header
   pub trailer_read : (t n : ℕ) (h : Header) → n ≤ 999999999
-      → header_of (header_table (frame_of v)) (header_with date company t (frame_of v)) ≡ a_header h
+      → header_of (header_table (frame_of v)) (header_with date company t (frame_of v)) ≡ Some h
       → trailer_of (trailer_table (frame_of v)) (header_with date company t (frame_of v)) (trailer_with date company n (frame_of v))
-      ≡ a_trailer (record { 0 = n })
+      ≡ Some (record { 0 = n })
   unfolding trailer_of same_frame date_of name_of
   trailer_read t n h x e =
       let g : fault_in false (opened t) (header_table (frame_of v)) ≡ 0 =

@@ -1,13 +1,14 @@
 -- Last spring's incident: a change, delete or unlock of a company that does not hold the number is turned away, on any register.
 -- Assumes nothing.
+use Rattle.std.proofs.lemmas.Option.{none-some, same_Some}
+use Rattle.std.specs.Prelude.{Option, Some, None}
 use mathlib.Core.Path.{◌≡◌, refl, sym, ap, ◌∙◌}
 use mathlib.Core.Bool.{Bool, true, false, not, ◌&&◌, ◌||◌, cond}
-use mathlib.Core.Option.{some, some-ne-none, some-injective}
 use mathlib.Core.List.{List, [], ◌∷◌, ◌++◌}
 use Prim.Native.Nat.{ℕ}
 use lib.Dec.{eqb}
 use borrow.Author.Tests.{eqb-true}
-use Rattle.text.specs.Text.{same_bytes, member_of}
+use Rattle.text.specs.Text.{same_bytes, member_of, on_some}
 use Rattle.text.proofs.Laws.{same_true, same_refl}
 use Rattle.calendar.specs.declared.Day.{Day}
 use Rattle.calendar.specs.Calendar.{is_before}
@@ -15,11 +16,7 @@ use Rattle.layout.specs.declared.frame.Header.{Header}
 use Rattle.layout.specs.Fields.{number_of, company_of}
 use Rattle.rules.specs.declared.Code.{Code}
 use Rattle.rules.specs.declared.Code.TheVariants.{Insert, Change, Delete, Unlock, Migrate}
-use Rattle.rules.specs.declared.Filed.{Filed}
-use Rattle.rules.specs.declared.Filed.TheVariants.{Record, NoRecord}
-use Rattle.rules.specs.declared.Found.{Found}
-use Rattle.rules.specs.declared.Found.TheVariants.{At, Nothing}
-use Rattle.rules.specs.Walks.{first, on_found}
+use Rattle.rules.specs.Walks.{first}
 use Rattle.rules.specs.Slots.{slot_at, state_of, record_of, is_held, is_open}
 use Rattle.rules.specs.Records.{filed_of, is_insert, is_migrate, is_own, stores, find_number, find_row, find_spare, table, answer_of, register_after, Step, step, applied}
 use Rattle.rules.specs.History.{Item, entry, row}
@@ -59,10 +56,10 @@ turned false false true other rest e = refl
 turned false false false other rest e = refl
 
 -- what is found for the number: nothing, or a slot
-answered : (R G : List ℕ) (h : Header) (r : List ℕ) (c : Code) (d : Day) (m k p : Found) → is_own c ≡ true
-    → on_found m false (λ i. is_held (state_of (slot_at R i)) && same_bytes (company_of (record_of (slot_at R i))) (company_of r)) ≡ false
+answered : (R G : List ℕ) (h : Header) (r : List ℕ) (c : Code) (d : Day) (m k p : Option ℕ) → is_own c ≡ true
+    → on_some m false (λ i. is_held (state_of (slot_at R i)) && same_bytes (company_of (record_of (slot_at R i))) (company_of r)) ≡ false
     → member_of (first (table R G h r c d m k p)) away ≡ true
-answered R G h r c d (At i) k p w e =
+answered R G h r c d (Some i) k p w e =
     let b = state_of (slot_at R i) in
     let s = same_bytes (company_of (record_of (slot_at R i))) (company_of r) in
     let n = own_codes c w in
@@ -72,12 +69,12 @@ answered R G h r c d (At i) k p w e =
     twice : (x y : Bool) → x && y ≡ false → x && not (not y) ≡ false
     twice x true e = e
     twice x false e = e
-answered R G h r c d Nothing k p w e =
+answered R G h r c d None k p w e =
     let n = own_codes c w in
     rw (w, n.0, n.1) (turned (is_before h.day d) false false false _ refl)
 
 -- the answer of a record with code c and date d is that of the table
-answer_is : (R G : List ℕ) (h : Header) (r : List ℕ) (c : Code) (d : Day) → filed_of r ≡ Record c d
+answer_is : (R G : List ℕ) (h : Header) (r : List ℕ) (c : Code) (d : Day) → filed_of r ≡ Some (c, d)
     → (applied R G h r).answer ≡ answer_of R G h r c d
 unfolding applied step
 answer_is R G h r c d f = rw f (go (eqb n 0) refl)
@@ -97,9 +94,9 @@ unfolding Guarded code_is held_by answer_of
 incident R G h r w e =
     record { answered = told; unchanged = applied_not R G h r (λ z. clash-bool told (rw z refl)) }
   where
-    go : (f : Filed) → filed_of r ≡ f → is_coded is_own f ≡ true → member_of (applied R G h r).answer away ≡ true
-    go NoRecord q w = clash-bool w refl
-    go (Record c d) q w =
+    go : (f : Option (Code × Day)) → filed_of r ≡ f → is_coded is_own f ≡ true → member_of (applied R G h r).answer away ≡ true
+    go None q w = clash-bool w refl
+    go (Some (c, d)) q w =
         rw (answer_is R G h r c d q)
         (answered R G h r c d (find_number (number_of r) R) (find_row r G) (find_spare h.day R) w e)
 
@@ -109,16 +106,16 @@ incident R G h r w e =
 -- ---- and from an accepted I, C or M of a company on, until the next U or D, the number is that company's
 
 -- the last record of a number, if it is I, C or M, is the last that was stored
-last_stored_lem : (n : List ℕ) (h : List Item) (r : List ℕ) → last_of n h ≡ some r → code_is stores r ≡ true
-    → last_stored n h ≡ some r
+last_stored_lem : (n : List ℕ) (h : List Item) (r : List ℕ) → last_of n h ≡ Some r → code_is stores r ≡ true
+    → last_stored n h ≡ Some r
 unfolding last_of last_stored newest
-last_stored_lem n [] r e s = absurd (some-ne-none r (sym e))
+last_stored_lem n [] r e s = absurd (none-some r e)
 last_stored_lem n (row g ∷ h) r e s = last_stored_lem n h r e s
 last_stored_lem n (entry x ∷ h) r e s = go (λ f. last_stored_lem n h r f s) (same_bytes (number_of x) n) e
   where
-    go : (last_of n h ≡ some r → last_stored n h ≡ some r) → (b : Bool) → cond b (some x) (last_of n h) ≡ some r
-        → cond (b && code_is stores x) (some x) (last_stored n h) ≡ some r
-    go ih true e = let i : x ≡ r = some-injective x r e in rw (i, s) refl
+    go : (last_of n h ≡ Some r → last_stored n h ≡ Some r) → (b : Bool) → cond b (Some x) (last_of n h) ≡ Some r
+        → cond (b && code_is stores x) (Some x) (last_stored n h) ≡ Some r
+    go ih true e = let i : x ≡ r = same_Some x r e in rw (i, s) refl
     go ih false e = ih e
 
 -- a row is no record of a number
@@ -133,7 +130,7 @@ not_open b e = rw (eqb-true b 1 e) refl
 -- the last record of n that was accepted is I, C or M of the company: its next one can only be C, and only of that company
 module _ (n company : List ℕ) (h : List Item) (w : LastWas stores n company h) where
   -- it is the last that was stored
-  stored_it : last_stored n h ≡ some w.it
+  stored_it : last_stored n h ≡ Some w.it
   stored_it = last_stored_lem n h w.it w.last w.coded
 
   -- the next one that is not U or D is of the company
@@ -141,15 +138,15 @@ module _ (n company : List ℕ) (h : List Item) (w : LastWas stores n company h)
   next_of r e s a = go a.code a.date a.filed a.state a.holder
     where
       held : is_held (state_left (last_of (number_of r) h)) ≡ true
-      held = rw (e, w.last) (held_is (some w.it) ∙ w.coded)
+      held = rw (e, w.last) (held_is (Some w.it) ∙ w.coded)
 
-      go : (c : Code) (d : Day) → filed_of r ≡ Record c d → allowed c (state_left (last_of (number_of r) h)) ≡ true
+      go : (c : Code) (d : Day) → filed_of r ≡ Some (c, d) → allowed c (state_left (last_of (number_of r) h)) ≡ true
           → (is_own c ≡ true → ByHolder h r) → company_of r ≡ company
       go Insert d f t b = clash-bool t (rw (live_held (state_left (last_of (number_of r) h)) held) refl)
       go Change d f t b =
           let o = b refl in
-          let q : last_stored n h ≡ some o.before = rw e at o.last in
-          sym o.holder ∙ ap company_of (some-injective o.before w.it (sym q ∙ stored_it)) ∙ w.by
+          let q : last_stored n h ≡ Some o.before = rw e at o.last in
+          sym o.holder ∙ ap company_of (same_Some o.before w.it (sym q ∙ stored_it)) ∙ w.by
       go Delete d f t b = clash-bool s (code_is_lem r Delete d f stores)
       go Unlock d f t b = clash-bool s (code_is_lem r Unlock d f stores)
       go Migrate d f t b = clash-bool t (not_open (state_left (last_of (number_of r) h)) held)
@@ -207,8 +204,8 @@ holder n m files since y h e s u =
       entries = λ i v q.
           let t = p.all_told i (v.0, used_live (state_of (slot_at o.stores.register i)) v.1) in
           let it = w.last.it in
-          let a : last_stored (number_of y) o.history ≡ some it =
+          let a : last_stored (number_of y) o.history ≡ Some it =
           rw e (stored_it (number_of y) (company_of y) (since ++ (entry y ∷ h)) w.last) in
-          let b : last_stored (number_of y) o.history ≡ some t.given = rw q at t.last in
-          sym t.holder ∙ ap company_of (some-injective t.given it (sym b ∙ a)) ∙ w.last.by;
+          let b : last_stored (number_of y) o.history ≡ Some t.given = rw q at t.last in
+          sym t.holder ∙ ap company_of (same_Some t.given it (sym b ∙ a)) ∙ w.last.by;
     }

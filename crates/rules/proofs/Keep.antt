@@ -1,17 +1,16 @@
 -- The third demand: what every accepted line keeps, over a file, over a run of files from empty stores; and the demand from it.
 -- Assumes nothing.
+use Rattle.rules.specs.declared.Refusal.{Refusal}
+use Rattle.text.specs.Text.{on_some}
+use Rattle.std.specs.Prelude.{Option, Some, None, Result, Ok, Err}
 use mathlib.Core.Path.{◌≡◌, refl, sym, ap, ◌∙◌}
 use mathlib.Core.Bool.{Bool, true, false}
-use mathlib.Core.Option.{Option}
 use mathlib.Core.List.{List, [], ◌∷◌}
 use Prim.Native.Nat.{ℕ, zero, suc, ◌*◌, ◌≤◌}
 use native.Mathlib.Decide.{ℕ_discrete}
 use native.Mathlib.Omega.{arith}
 use lib.ListN.{length, replicate, length-replicate}
 use borrow.Author.Tests.{eq-eqb, ne_eqb}
-use Rattle.text.specs.declared.Spelled.{Spelled}
-use Rattle.text.specs.declared.Spelled.TheVariants.{Number, NoNumber}
-use Rattle.text.specs.Text.{on_number}
 use Rattle.layout.specs.declared.frame.Header.{Header}
 use Rattle.layout.specs.Counters.{given_cycle}
 use Rattle.layout.specs.Fields.{house_of, street_of, place_of}
@@ -19,15 +18,13 @@ use Rattle.rules.proofs.WideLaws.{wide_whole}
 use Rattle.rules.specs.declared.Kind.{Kind}
 use Rattle.rules.specs.declared.Kind.TheVariants.{Data, Guide}
 use Rattle.rules.specs.declared.Code.{Code}
-use Rattle.rules.specs.declared.Checked.{Checked}
-use Rattle.rules.specs.declared.Checked.TheVariants.{Good, Refused}
 use Rattle.rules.specs.Walks.{count}
 use Rattle.rules.specs.Slots.{slots, slot_at, state_of, record_of, is_held, is_open, is_used, is_live, row_slot_at, row_of}
 use Rattle.rules.specs.Covers.{over, covers}
 use Rattle.rules.specs.Records.{applied, stores, shown}
 use Rattle.rules.specs.Rows.{row_code_of, row_applied}
 use Rattle.rules.specs.Takes.{Stores, shape_of, lines_in, good_file, line_at, checked, line_applied, after, answer_at}
-use Rattle.rules.specs.History.{Item, row, item_of, history_to}
+use Rattle.rules.specs.History.{Item, item_of, history_to}
 use Rattle.rules.specs.Demands.{File, Office, start, taking, run, present_at, OneSlot, OneRow, AllLie, StoresKept, is_unlock, newest, last_of, is_there, last_is, tally, AllLast, Exactly, Counted, HistoryKept, Sized, Demand3}
 use Rattle.rules.proofs.WalkLaws.{clash-bool}
 use Rattle.rules.proofs.SlotLaws.{empty_slot, empty_row_slot}
@@ -119,9 +116,9 @@ keep_file : {n m : ℕ} (f : File) (o : Office) → Kept n m o → Kept n m (tak
 unfolding taking
 keep_file {n} {m} f o p = go (checked f.kind o.stores f.bytes (length f.answers) (given_cycle f.last)) refl
   where
-    go : (c : Checked) → checked f.kind o.stores f.bytes (length f.answers) (given_cycle f.last) ≡ c
+    go : (c : Result Header Refusal) → checked f.kind o.stores f.bytes (length f.answers) (given_cycle f.last) ≡ c
         → Kept n m (taking f o)
-    go (Good h) e =
+    go (Ok h) e =
         let k = f.kind in
         let s = o.stores in
         let b = f.bytes in
@@ -129,7 +126,7 @@ keep_file {n} {m} f o p = go (checked f.kind o.stores f.bytes (length f.answers)
         let g = good_file_lem k s b (length a) (given_cycle f.last) h e in
         rw (good_stores k s b a f.last h e, good_history k s b a f.last h e)
         (keep_lines k h b s o.history (lines_in k b) g.long (omega arith) p)
-    go (Refused r) e =
+    go (Err r) e =
         let k = f.kind in
         let s = o.stores in
         let b = f.bytes in
@@ -186,10 +183,10 @@ unfolding OneRow
 one_cover G r one j k u v x y =
     go (house_of r) (sym (covers_over (row_of (row_slot_at G j)) r) ∙ x) (sym (covers_over (row_of (row_slot_at G k)) r) ∙ y)
   where
-    go : (o : Spelled) → on_number o false (λ n. over (row_of (row_slot_at G j)) (street_of r) (place_of r) n) ≡ true
-        → on_number o false (λ n. over (row_of (row_slot_at G k)) (street_of r) (place_of r) n) ≡ true → j ≡ k
-    go (Number n) x y = one j k (street_of r) (place_of r) n u v x y
-    go NoNumber x y = clash-bool x refl
+    go : (o : Option ℕ) → on_some o false (λ n. over (row_of (row_slot_at G j)) (street_of r) (place_of r) n) ≡ true
+        → on_some o false (λ n. over (row_of (row_slot_at G k)) (street_of r) (place_of r) n) ≡ true → j ≡ k
+    go (Some n) x y = one j k (street_of r) (place_of r) n u v x y
+    go None x y = clash-bool x refl
 
 module _ {n m : ℕ} (o : Office) (p : Kept n m o) where
   -- the register, the guide and the history

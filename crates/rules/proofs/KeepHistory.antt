@@ -1,9 +1,9 @@
 -- What an accepted record keeps, with the history: what each slot holds is what was last stored, and in the state that the last
 -- accepted record left; each accepted record was allowed by the last one of its number; held plus open. Assumes nothing.
+use Rattle.std.specs.Prelude.{Option, Some, None}
 use mathlib.Core.Path.{◌≡◌, refl, sym, ap, ◌∙◌}
 use mathlib.Core.Logic.{◌≢◌}
 use mathlib.Core.Bool.{Bool, true, false, not, ◌&&◌, cond}
-use mathlib.Core.Option.{Option, none, some}
 use mathlib.Core.List.{List, [], ◌∷◌}
 use Prim.Native.Nat.{ℕ, ◌+◌}
 use native.Mathlib.Omega.{arith}
@@ -14,8 +14,6 @@ use Rattle.layout.specs.declared.frame.Header.{Header}
 use Rattle.layout.specs.Fields.{number_of, company_of, esn_of, has_esn, row_esn_of, with_esn}
 use Rattle.rules.specs.declared.Code.{Code}
 use Rattle.rules.specs.declared.Code.TheVariants.{Insert, Change, Delete, Unlock, Migrate}
-use Rattle.rules.specs.declared.Filed.{Filed}
-use Rattle.rules.specs.declared.Filed.TheVariants.{Record, NoRecord}
 use Rattle.rules.specs.Walks.{count}
 use Rattle.rules.specs.Slots.{slots, slot_at, state_of, record_of, is_used, is_live, row_slot_at, row_of}
 use Rattle.rules.specs.Records.{filed_of, is_insert, is_own, stores, state_after, shown}
@@ -51,17 +49,17 @@ balance Unlock b h = rw (live_held b h) refl
 balance Migrate b h = rw (live_open b h) refl
 
 -- the state that an accepted record leaves its number in
-abbrev pub state_by : Filed → ℕ
-state_by (Record c d) = state_after c
-state_by NoRecord = 0
+abbrev pub state_by : Option (Code × Day) → ℕ
+state_by (Some (c, d)) = state_after c
+state_by None = 0
 
 -- so it is for the last record of a number; one of which there is none is absent
 abbrev pub state_left : Option (List ℕ) → ℕ
-state_left none = 0
-state_left (some r) = state_by (filed_of r)
+state_left None = 0
+state_left (Some r) = state_by (filed_of r)
 
 -- what a test says of a record, it says of its code
-pub code_is_lem : (r : List ℕ) (c : Code) (d : Day) → filed_of r ≡ Record c d → (p : Code → Bool) → code_is p r ≡ p c
+pub code_is_lem : (r : List ℕ) (c : Code) (d : Day) → filed_of r ≡ Some (c, d) → (p : Code → Bool) → code_is p r ≡ p c
 unfolding code_is
 code_is_lem r c d e p = rw e
 
@@ -69,7 +67,7 @@ code_is_lem r c d e p = rw e
 
 module _ (n r : List ℕ) (h : List Item) where
   -- it is the last of its number
-  pub last_same : number_of r ≡ n → last_of n (entry r ∷ h) ≡ some r
+  pub last_same : number_of r ≡ n → last_of n (entry r ∷ h) ≡ Some r
   unfolding last_of newest
   last_same e = rw (e, same_refl n) refl
 
@@ -79,7 +77,7 @@ module _ (n r : List ℕ) (h : List Item) where
   last_other e = rw e refl
 
   -- an I, C or M is the last stored of its number
-  pub stored_same : number_of r ≡ n → code_is stores r ≡ true → last_stored n (entry r ∷ h) ≡ some r
+  pub stored_same : number_of r ≡ n → code_is stores r ≡ true → last_stored n (entry r ∷ h) ≡ Some r
   unfolding last_stored newest
   stored_same e s = rw (e, same_refl n, s) refl
 
@@ -93,7 +91,7 @@ module _ (n r : List ℕ) (h : List Item) where
   unfolding last_stored newest
   stored_keeps s = go (same_bytes (number_of r) n)
     where
-      go : (b : Bool) → cond (b && code_is stores r) (some r) (last_stored n h) ≡ last_stored n h
+      go : (b : Bool) → cond (b && code_is stores r) (Some r) (last_stored n h) ≡ last_stored n h
       go true = rw s refl
       go false = refl
 
@@ -111,7 +109,7 @@ filled_esn r g z = ap (filled_with r) (sym z)
 -- a used slot holds the last that was stored for its number
 pub record Told (h : List Item) (r : List ℕ) : Type 0 where
   pub given : List ℕ
-  pub last : last_stored (number_of r) h ≡ some given
+  pub last : last_stored (number_of r) h ≡ Some given
   pub same : r ≡ filled_with given (esn_of r)
   pub holder : company_of given ≡ company_of r
 
@@ -130,14 +128,14 @@ AllKept R h = (n : List ℕ) → is_live (state_left (last_of n h)) ≡ true →
 -- r is of the company of the last stored record of its number
 pub record ByHolder (h : List Item) (r : List ℕ) : Type 0 where
   pub before : List ℕ
-  pub last : last_stored (number_of r) h ≡ some before
+  pub last : last_stored (number_of r) h ≡ Some before
   pub holder : company_of before ≡ company_of r
 
 -- r was allowed by the last record of its number before it, and is of the holder's company if it is C, D or U
 pub record Allowed (h : List Item) (r : List ℕ) : Type 0 where
   pub code : Code
   pub date : Day
-  pub filed : filed_of r ≡ Record code date
+  pub filed : filed_of r ≡ Some (code, date)
   pub state : allowed code (state_left (last_of (number_of r) h)) ≡ true
   pub holder : is_own code ≡ true → ByHolder h r
 
@@ -149,7 +147,7 @@ Lawful (row g ∷ h) = Lawful h
 
 -- ---- a data record r with code c and date d was accepted after the history past, and S is the register after it
 
-module _ (R G : List ℕ) (h : Header) (r : List ℕ) (c : Code) (d : Day) (S : List ℕ) (k : Whole r) (t : Took R G h r c d S) (past : List Item) (filed : filed_of r ≡ Record c d) where
+module _ (R G : List ℕ) (h : Header) (r : List ℕ) (c : Code) (d : Day) (S : List ℕ) (k : Whole r) (t : Took R G h r c d S) (past : List Item) (filed : filed_of r ≡ Some (c, d)) where
   -- each slot is in the state that the history says
   pub keep_state : OneSlot R → AllState R past → AllState S (entry r ∷ past)
   unfolding AllState

@@ -1,5 +1,10 @@
 -- The stores of a run stay sound: no file of it is refused by 1 or 2. Assumes nothing.
-use mathlib.Core.Path.{◌≡◌, refl, ap, ◌∙◌}
+use Rattle.std.proofs.lemmas.Bool.{not-true, not-false}
+use Rattle.std.specs.Option.{is_none}
+use Rattle.std.proofs.lemmas.Option.{none-some, same_Some}
+use Rattle.rules.specs.declared.Refusal.{Refusal}
+use Rattle.std.specs.Prelude.{Option, Some, None, Result, Ok, Err}
+use mathlib.Core.Path.{◌≡◌, refl, ap, ◌∙◌, sym}
 use mathlib.Core.Logic.{◌≢◌}
 use mathlib.Core.Bool.{Bool, true, false, not, ◌&&◌, ◌||◌, cond}
 use mathlib.Core.List.{List, [], ◌∷◌}
@@ -9,14 +14,12 @@ use native.Mathlib.Omega.{arith}
 use lib.Dec.{leb, eqb}
 use lib.ListN.{length, get_or}
 use borrow.Author.Tests.{eqb-true, ne_eqb, leb-true, ltb-false, le-ltb}
-use Rattle.text.specs.Text.{part}
+use Rattle.text.specs.Text.{part, on_some}
 use Rattle.text.proofs.Laws.{and_left, and_right}
 use Rattle.calendar.specs.declared.Day.{Day}
-use Rattle.calendar.specs.declared.Date.{Date}
-use Rattle.calendar.specs.declared.Date.TheVariants.{Day as a_day, NoDate}
 use Rattle.calendar.specs.declared.Reading.{Reading}
 use Rattle.calendar.specs.declared.Reading.TheVariants.{Present}
-use Rattle.calendar.specs.Calendar.{on_day, on_calendar, no_later, is_before}
+use Rattle.calendar.specs.Calendar.{on_calendar, no_later, is_before}
 use Rattle.calendar.proofs.DateLaws.{date_fits}
 use Rattle.layout.specs.declared.frame.Header.{Header}
 use Rattle.layout.specs.Counters.{given_cycle}
@@ -29,18 +32,14 @@ use Rattle.rules.specs.declared.Kind.TheVariants.{Data, Guide}
 use Rattle.rules.specs.declared.Code.{Code}
 use Rattle.rules.specs.declared.Code.TheVariants.{Insert, Change, Delete, Unlock, Migrate}
 use Rattle.rules.specs.declared.RowCode.{RowCode}
-use Rattle.rules.specs.declared.RowCode.TheVariants.{Insert as InsertRow, Delete as DeleteRow, NoCode}
-use Rattle.rules.specs.declared.Filed.TheVariants.{Record, NoRecord}
-use Rattle.rules.specs.declared.Found.TheVariants.{Nothing}
-use Rattle.rules.specs.declared.Checked.{Checked}
-use Rattle.rules.specs.declared.Checked.TheVariants.{Good, Refused}
-use Rattle.rules.specs.Walks.{find, is_nothing}
+use Rattle.rules.specs.declared.RowCode.TheVariants.{Insert as InsertRow, Delete as DeleteRow}
+use Rattle.rules.specs.Walks.{find}
 use Rattle.rules.specs.Slots.{place, good_length, slots, slot_at, state_of, slot_day, record_of, slot_of, is_free, is_held, is_used, is_zero, is_entry_code, fits_slot, day_fits, used_sound, slot_sound, slot_sound_by, unsound_slot, register_sound, unsound_by, register_sound_by, row_slots, row_slot_at, with_row_slot, is_present, is_vacant, row_of, row_slot_of, free_row_slot, present_sound, row_slot_sound, unsound_row_slot, guide_sound}
 use Rattle.rules.specs.Records.{coded_of, filed_of, stores, state_after, shown, applied}
 use Rattle.rules.specs.Rows.{row_code_of, row_applied}
 use Rattle.rules.specs.Takes.{Stores, shape_of, line_fault, lines_in, line_at, checked, refused_file, line_applied, after, answer_at, applied_file, taken}
 use Rattle.rules.specs.Demands.{File, Office, start, taking, run, present_at, SoundStores, NoneUnsound}
-use Rattle.rules.proofs.WalkLaws.{clash-bool, not_false, not_true, find_none, find_nowhere, is_nothing_lem}
+use Rattle.rules.proofs.WalkLaws.{clash-bool, find_none, find_nowhere, is_none_lem}
 use Rattle.rules.proofs.SlotLaws.{Whole, WholeRow, state_slot, day_slot, record_slot, present_row, row_slot, length_row_slot, length_free, whole_row_at, zero_zeros, zero_row_sound, empty_sound, empty_guide_sound}
 use Rattle.rules.proofs.EsnLaws.{date_shown, function_shown}
 use Rattle.rules.proofs.View.{Place, own, new, Content, stored, kept, Took, RowTook, added, removed, late}
@@ -58,21 +57,21 @@ pub record AllSound (w : ℕ) (p : List ℕ → Bool) (s : List ℕ) : Type 0 wh
 
 module _ (w : ℕ) (p : List ℕ → Bool) (s : List ℕ) where
   -- it is so if no place fails
-  all_sound : good_length w s && is_nothing (find (λ i. not (p (place w s i))) (length s / w)) ≡ true → AllSound w p s
+  all_sound : good_length w s && is_none (find (λ i. not (p (place w s i))) (length s / w)) ≡ true → AllSound w p s
   all_sound e =
       let l = good_length w s in
       let o = find (λ i. not (p (place w s i))) (length s / w) in
       record {
-        long = and_left l (is_nothing o) e;
+        long = and_left l (is_none o) e;
         each = λ i h.
-            not_false (p (place w s i))
-            (find_none (λ i. not (p (place w s i))) (length s / w) (is_nothing_lem o (and_right l (is_nothing o) e)) i h);
+            not-false (p (place w s i))
+            (find_none (λ i. not (p (place w s i))) (length s / w) (is_none_lem o (and_right l (is_none o) e)) i h);
       }
 
   -- and no place fails if it is so
-  none_fails : AllSound w p s → good_length w s && is_nothing (find (λ i. not (p (place w s i))) (length s / w)) ≡ true
+  none_fails : AllSound w p s → good_length w s && is_none (find (λ i. not (p (place w s i))) (length s / w)) ≡ true
   none_fails a =
-      let o : find (λ i. not (p (place w s i))) (length s / w) ≡ Nothing =
+      let o : find (λ i. not (p (place w s i))) (length s / w) ≡ None =
       find_nowhere (λ i. not (p (place w s i))) (length s / w) (λ i h. rw (a.each i h)) in
       rw (a.long, o) refl
 
@@ -113,7 +112,7 @@ same_good w s t l e = rw l e
 
 -- its date is d, which a slot can have, and its function byte is that of an entry if the code stores
 record Reads (r : List ℕ) (c : Code) (d : Day) : Type 0 where
-  dated : date_of r ≡ a_day d
+  dated : date_of r ≡ Some d
   coded : stores c ≡ true → is_entry_code (function_of r) ≡ true
   fits : on_calendar d ≡ true
 
@@ -123,20 +122,24 @@ unfolding date_of
 record_fits r = date_fits (field data_record date r)
 
 -- no record is one with a code and a date
-no_record : {A : Type 0} (c : Code) (d : Day) → NoRecord ≡ Record c d → A
-no_record c d e = let z : ◌≡◌ {A = ℕ} 0 1 = cc in absurd (omega arith)
+no_record : {A : Type 0} (c : Code) (d : Day) → ◌≡◌ {A = Option (Code × Day)} None (Some (c, d)) → A
+no_record c d e = absurd (none-some (c, d) e)
 
 -- the byte of a code
-coded_as : (b : ℕ) (x : Day) (c : Code) (d : Day) → coded_of b x ≡ Record c d → (x ≡ d) × (stores c ≡ true → is_entry_code b ≡ true)
+coded_as : (b : ℕ) (x : Day) (c : Code) (d : Day) → coded_of b x ≡ Some (c, d) → (x ≡ d) × (stores c ≡ true → is_entry_code b ≡ true)
 coded_as b x c d e = go (eqb b 73) refl (eqb b 67) refl (eqb b 68) (eqb b 85) (eqb b 77) refl e
   where
-    made : (k : Code) → (stores k ≡ true → is_entry_code b ≡ true) → Record k x ≡ Record c d
+    made : (k : Code) → (stores k ≡ true → is_entry_code b ≡ true) → ◌≡◌ {A = Option (Code × Day)} (Some (k, x)) (Some (c, d))
         → (x ≡ d) × (stores c ≡ true → is_entry_code b ≡ true)
-    made k f e = let i : c ≡ k = cc in let j : x ≡ d = cc in (j, λ s. f (rw i at s))
+    made k f e =
+        let p : ◌≡◌ {A = Code × Day} (k, x) (c, d) = same_Some (k, x) (c, d) e in
+        let i : c ≡ k = sym (ap (λ (y : Code × Day). y.0) p) in
+        (ap (λ (y : Code × Day). y.1) p, λ s. f (rw i at s))
 
     go : (i : Bool) → eqb b 73 ≡ i → (g : Bool) → eqb b 67 ≡ g → (y u m : Bool) → eqb b 77 ≡ m
-        → cond i (Record Insert x) (cond g (Record Change x) (cond y (Record Delete x) (cond u (Record Unlock x) (cond m (Record Migrate x) NoRecord))))
-        ≡ Record c d
+        → ◌≡◌ {A = Option (Code × Day)}
+        (cond i (Some (Insert, x)) (cond g (Some (Change, x)) (cond y (Some (Delete, x)) (cond u (Some (Unlock, x)) (cond m (Some (Migrate, x)) None)))))
+        (Some (c, d))
         → (x ≡ d) × (stores c ≡ true → is_entry_code b ≡ true)
     go true p g q y u m w e = made Insert (λ s. rw p) e
     go false p true q y u m w e = made Change (λ s. rw (p, q)) e
@@ -146,17 +149,17 @@ coded_as b x c d e = go (eqb b 73) refl (eqb b 67) refl (eqb b 68) (eqb b 85) (e
     go false p false q false false false w e = no_record c d e
 
 -- a record with a code and a date reads so
-reads : (r : List ℕ) (c : Code) (d : Day) → filed_of r ≡ Record c d → Reads r c d
+reads : (r : List ℕ) (c : Code) (d : Day) → filed_of r ≡ Some (c, d) → Reads r c d
 unfolding filed_of
 reads r c d e = go (eqb (length r) 512) (date_of r) refl e
   where
-    go : (b : Bool) (x : Date) → date_of r ≡ x → cond b (on_day x NoRecord (λ y. coded_of (function_of r) y)) NoRecord ≡ Record c d
+    go : (b : Bool) (x : Option Day) → date_of r ≡ x → cond b (on_some x None (λ y. coded_of (function_of r) y)) None ≡ Some (c, d)
         → Reads r c d
     go false x q e = no_record c d e
-    go true NoDate q e = no_record c d e
-    go true (a_day x) q e =
+    go true None q e = no_record c d e
+    go true (Some x) q e =
         let f = coded_as (function_of r) x c d e in
-        record { dated = q ∙ ap a_day f.0; coded = f.1; fits = rw (q ∙ ap a_day f.0) at (record_fits r) }
+        record { dated = q ∙ ap Some f.0; coded = f.1; fits = rw (q ∙ ap Some f.0) at (record_fits r) }
 
 -- ---- a slot that is written
 
@@ -171,7 +174,7 @@ zeros_slot b d r = refl
 
 -- it is sound, if its record fits and its day does
 pub slot_sound_lem : (b : ℕ) (d : Day) (r : List ℕ) → Whole r → is_used b ≡ true → on_calendar d ≡ true → fits_slot r ≡ true
-    → on_day (date_of r) false (λ x. day_fits b d x) ≡ true → slot_sound (slot_of b d r) ≡ true
+    → on_some (date_of r) false (λ x. day_fits b d x) ≡ true → slot_sound (slot_of b d r) ≡ true
 unfolding slot_sound used_sound
 slot_sound_lem b d r w u c f e =
     let l = leb-true d.0 36524 c in
@@ -182,14 +185,14 @@ slot_sound_lem b d r w u c f e =
 pub record UsedBy (x : Reading) (s : List ℕ) : Type 0 where
   pub zeros : is_zero (part 5 3 s) ≡ true
   pub fits : fits_slot (record_of s) ≡ true
-  pub dated : on_day (date_by x (record_of s)) false (λ d. day_fits (state_of s) (slot_day s) d) ≡ true
+  pub dated : on_some (date_by x (record_of s)) false (λ d. day_fits (state_of s) (slot_day s) d) ≡ true
 
 pub used_by : (x : Reading) (s : List ℕ) → slot_sound_by x s ≡ true → is_used (state_of s) ≡ true → UsedBy x s
 used_by x s e u =
     let a = is_used (state_of s) in
     let b = is_zero (part 5 3 s) in
     let c = fits_slot (record_of s) in
-    let d = on_day (date_by x (record_of s)) false (λ d. day_fits (state_of s) (slot_day s) d) in
+    let d = on_some (date_by x (record_of s)) false (λ d. day_fits (state_of s) (slot_day s) d) in
     let f : a && (b && (c && d)) ≡ true = rw (not_free (state_of s) u) at e in
     let g = and_right a (b && (c && d)) f in
     let h = and_right b (c && d) g in
@@ -223,7 +226,7 @@ unfolding day_fits
 day_kept c b d e x s l o f =
     let p = not (is_before e x) in
     let q = (not (is_held b) || not (is_before x e)) && on_calendar e in
-    let y = not_true (is_before e x) (and_left p q f) in
+    let y = not-true (is_before e x) (and_left p q f) in
     let i = ltb-false d.0 e.0 l in
     let j = ltb-false e.0 x.0 y in
     let g : is_before d x ≡ false = le-ltb d.0 x.0 (omega arith) in
@@ -237,10 +240,10 @@ day_kept c b d e x s l o f =
     go Migrate s = clash-bool refl s
 
 -- so it is for the date that a record has, if it has one
-date_kept : (c : Code) (b : ℕ) (d e : Day) (x : Date) → stores c ≡ false → is_before d e ≡ false → on_calendar d ≡ true
-    → on_day x false (λ x. day_fits b e x) ≡ true → on_day x false (λ x. day_fits (state_after c) d x) ≡ true
-date_kept c b d e (a_day x) s l o f = day_kept c b d e x s l o f
-date_kept c b d e NoDate s l o f = f
+date_kept : (c : Code) (b : ℕ) (d e : Day) (x : Option Day) → stores c ≡ false → is_before d e ≡ false → on_calendar d ≡ true
+    → on_some x false (λ x. day_fits b e x) ≡ true → on_some x false (λ x. day_fits (state_after c) d x) ≡ true
+date_kept c b d e (Some x) s l o f = day_kept c b d e x s l o f
+date_kept c b d e None s l o f = f
 
 -- ---- a row in a sound guide
 
@@ -265,7 +268,7 @@ row_good G k gs u = go (row_slot_at G k) (gs.each k u.0) u.1
 
 -- ---- the register after a record that was accepted
 
-module _ (R G : List ℕ) (h : Header) (r : List ℕ) (c : Code) (d : Day) (S : List ℕ) (k : Whole r) (t : Took R G h r c d S) (filed : filed_of r ≡ Record c d) (good : record_fault data_record r ≡ 0) (rs : SlotsSound R) (gs : RowsSound G) where
+module _ (R G : List ℕ) (h : Header) (r : List ℕ) (c : Code) (d : Day) (S : List ℕ) (k : Whole r) (t : Took R G h r c d S) (filed : filed_of r ≡ Some (c, d)) (good : record_fault data_record r ≡ 0) (rs : SlotsSound R) (gs : RowsSound G) where
   -- what an entry shows fits a slot
   fits_shown : (g : List ℕ) → WholeRow g → row_fault guide_row g ≡ 0 → is_entry_code (function_of r) ≡ true
       → fits_slot (shown r g) ≡ true
@@ -273,11 +276,11 @@ module _ (R G : List ℕ) (h : Header) (r : List ℕ) (c : Code) (d : Day) (S : 
   fits_shown g f v e = rw (fault_shown g r f k v good, function_shown g r f k, e, esn_filled g r f k v) refl
 
   -- what was written fits a slot, and so does its day
-  content_sound : (fits_slot t.content ≡ true) × (on_day (date_of t.content) false (λ x. day_fits (state_after c) d x) ≡ true)
+  content_sound : (fits_slot t.content ≡ true) × (on_some (date_of t.content) false (λ x. day_fits (state_after c) d x) ≡ true)
   content_sound = go t.place t.what
     where
       go : Place R r c d t.index → Content R G r c t.index t.content
-          → (fits_slot t.content ≡ true) × (on_day (date_of t.content) false (λ x. day_fits (state_after c) d x) ≡ true)
+          → (fits_slot t.content ≡ true) × (on_some (date_of t.content) false (λ x. day_fits (state_after c) d x) ≡ true)
       go p (stored s i there u e q) =
           let g = row_of (row_slot_at G i) in
           let f = whole_row_at G i there.0 in
@@ -312,11 +315,11 @@ module _ (R G : List ℕ) (h : Header) (r : List ℕ) (c : Code) (d : Day) (S : 
 -- ---- the guide after a row that was accepted
 
 -- the byte of code I
-row_coded : (g : List ℕ) → row_code_of g ≡ InsertRow → eqb (row_function_of g) 73 ≡ true
+row_coded : (g : List ℕ) → row_code_of g ≡ (Some InsertRow) → eqb (row_function_of g) 73 ≡ true
 unfolding row_code_of
 row_coded g e = go (eqb (length g) 200) (eqb (row_function_of g) 73) (eqb (row_function_of g) 68) e
   where
-    go : (l a b : Bool) → cond l (cond a InsertRow (cond b DeleteRow NoCode)) NoCode ≡ InsertRow → a ≡ true
+    go : (l a b : Bool) → cond l (cond a (Some InsertRow) (cond b (Some DeleteRow) None)) None ≡ (Some InsertRow) → a ≡ true
     go true true b e = refl
     go true false true e = let z : ◌≡◌ {A = ℕ} 0 1 = cc in absurd (omega arith)
     go true false false e = let z : ◌≡◌ {A = ℕ} 0 1 = cc in absurd (omega arith)
@@ -328,13 +331,13 @@ unfolding row_slot_of is_zero
 zeros_row g = refl
 
 -- a slot with a row of good form and code I in it
-row_slot_sound_lem : (g : List ℕ) → WholeRow g → row_fault guide_row g ≡ 0 → row_code_of g ≡ InsertRow
+row_slot_sound_lem : (g : List ℕ) → WholeRow g → row_fault guide_row g ≡ 0 → row_code_of g ≡ (Some InsertRow)
     → row_slot_sound (row_slot_of g) ≡ true
 unfolding row_slot_sound present_sound
 row_slot_sound_lem g w e c =
     rw (present_not_vacant (row_slot_of g) (present_row g), present_row g, zeros_row g, row_slot g w, e, row_coded g c) refl
 
-module _ (R G g : List ℕ) (c : RowCode) (K : List ℕ) (w : WholeRow g) (coded : row_code_of g ≡ c) (good : row_fault guide_row g ≡ 0) (gs : RowsSound G) where
+module _ (R G g : List ℕ) (c : Option RowCode) (K : List ℕ) (w : WholeRow g) (coded : row_code_of g ≡ c) (good : row_fault guide_row g ≡ 0) (gs : RowsSound G) where
   -- what is put into a slot is sound
   put_sound : (s : List ℕ) (k : ℕ) → k < row_slots G → length s ≡ 208 → K ≡ with_row_slot G k s → row_slot_sound s ≡ true
       → RowsSound K
@@ -404,13 +407,13 @@ sound_file : (f : File) (o : Office) → SoundStores o.stores → SoundStores (t
 unfolding taking
 sound_file f o p = go (checked f.kind o.stores f.bytes (length f.answers) (given_cycle f.last)) refl
   where
-    go : (c : Checked) → checked f.kind o.stores f.bytes (length f.answers) (given_cycle f.last) ≡ c
+    go : (c : Result Header Refusal) → checked f.kind o.stores f.bytes (length f.answers) (given_cycle f.last) ≡ c
         → SoundStores (taking f o).stores
-    go (Good h) e =
+    go (Ok h) e =
         rw (good_stores f.kind o.stores f.bytes f.answers f.last h e)
         (sound_lines f.kind h f.bytes o.stores (lines_in f.kind f.bytes)
         (good_file_lem f.kind o.stores f.bytes (length f.answers) (given_cycle f.last) h e) (omega arith))
-    go (Refused r) e = rw (refused_stores f.kind o.stores f.bytes f.answers f.last r e) p
+    go (Err r) e = rw (refused_stores f.kind o.stores f.bytes f.answers f.last r e) p
 
 -- a run of files
 pub sound_files : (fs : List File) (o : Office) → SoundStores o.stores → SoundStores (run fs o).stores
@@ -428,9 +431,9 @@ run_sound n m a b c d files =
 -- ---- what sound stores are not refused by
 
 -- what the checks of sound stores say is good, or has a number above 2
-abbrev Above : Checked → Type 0
-Above (Good h) = Unit {0}
-Above (Refused r) = 2 < r.number
+abbrev Above : Result Header Refusal → Type 0
+Above (Ok h) = Unit {0}
+Above (Err r) = 2 < r.number
 
 -- a file is not refused by 1 or 2
 not_unsound : (k : Kind) (s : Stores) (f answers : List ℕ) (last : ℕ) → SoundStores s
@@ -443,10 +446,10 @@ not_unsound k s f answers last p = go (checked k s f (length answers) (given_cyc
         checked_by Above k s f (length answers) (given_cycle last) (λ e. clash-bool p.register e) (λ e. clash-bool p.guide e)
         (omega arith) (omega arith) (omega arith) (omega arith) (omega arith) (omega arith) (λ i j. omega arith) (λ h g. tt)
 
-    go : (c : Checked) → checked k s f (length answers) (given_cycle last) ≡ c
+    go : (c : Result Header Refusal) → checked k s f (length answers) (given_cycle last) ≡ c
         → ((taken k s f answers last).result.refusal ≢ 1) × ((taken k s f answers last).result.refusal ≢ 2)
-    go (Good h) e = rw (good_is k s f answers last h e) (omega arith)
-    go (Refused r) e = let l : 2 < r.number = rw e at above in rw (refused_is k s f answers last r e) (omega arith)
+    go (Ok h) e = rw (good_is k s f answers last h e) (omega arith)
+    go (Err r) e = let l : 2 < r.number = rw e at above in rw (refused_is k s f answers last r e) (omega arith)
 
 -- so no file that follows a run is refused by 1 or 2
 pub run_not_unsound : (n m : ℕ) → 1 ≤ n → n ≤ 4096 → 1 ≤ m → m ≤ 4096 → (files : List File)

@@ -1,5 +1,6 @@
 -- What an accepted record or row keeps, of the stores alone: their lengths, one slot for a number, one row for a house number on a
 -- street, each entry under a row whose ESN it shows. Assumes nothing.
+use Rattle.std.specs.Prelude.{Option}
 use mathlib.Core.Path.{◌≡◌, refl, sym, ap, ◌∙◌}
 use mathlib.Core.Logic.{◌≢◌}
 use mathlib.Core.Bool.{Bool, true, false, ◌||◌}
@@ -264,7 +265,7 @@ module _ (G K s : List ℕ) (k : ℕ) (f : k < row_slots G) (e : length s ≡ 20
 
 -- ---- a guide row g with code c was accepted, and K is the guide after it
 
-module _ (R G g : List ℕ) (c : RowCode) (K : List ℕ) (w : WholeRow g) where
+module _ (R G g : List ℕ) (c : Option RowCode) (K : List ℕ) (w : WholeRow g) where
   -- the guide is as long
   pub same_guide_length : RowTook R G g c K → length K ≡ length G
   same_guide_length (added i k l v p e) = put_length G K (row_slot_of g) k l (length_row_slot g w) e

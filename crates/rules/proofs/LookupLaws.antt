@@ -1,5 +1,6 @@
 -- How large the numbers are that a lookup answers with.
 -- Assumes nothing.
+use Rattle.std.specs.Prelude.{Option, Some, None}
 use Prim.Native.Nat.{ℕ, ◌/◌, ◌%◌, ◌≤◌}
 use mathlib.Core.Path.{◌≡◌, refl}
 use mathlib.Core.List.{List}
@@ -9,11 +10,8 @@ use native.Mathlib.Omega.{arith}
 use borrow.Author.Tests.{leb-true}
 use lib.ListN.{length}
 use Rattle.text.proofs.Laws.{and_left, and_right}
-use Rattle.rules.specs.declared.Found.{Found}
-use Rattle.rules.specs.declared.Found.TheVariants.{At, Nothing}
 use Rattle.rules.specs.declared.Seen.{Seen}
-use Rattle.rules.specs.Walks.{on_found}
-use Rattle.text.specs.Text.{same_bytes}
+use Rattle.text.specs.Text.{same_bytes, on_some}
 use Rattle.layout.specs.Fields.{number_of}
 use Rattle.rules.specs.Slots.{record_of, slots, slot_at, state_of, slot_size, good_length, is_used}
 use Rattle.rules.specs.Records.{has_number, find_number, state_in}
@@ -35,18 +33,18 @@ long_few R g =
     (and_right (leb 1 n) (leb n 4096) (and_right (eqb (length R % 520) 0) (leb 1 n && leb n 4096) g))
 
 -- the state and the place of what is found
-state_small : (R n : List ℕ) (m : Found) → find_number n R ≡ m → state_in R m ≤ 3
+state_small : (R n : List ℕ) (m : Option ℕ) → find_number n R ≡ m → state_in R m ≤ 3
 unfolding find_number has_number
-state_small R n Nothing e = omega arith
-state_small R n (At i) e =
+state_small R n None e = omega arith
+state_small R n (Some i) e =
     let b = state_of (slot_at R i) in
     let h = (find_some (has_number n R) (slots R) i e).1 in
     leb-true b 3 (and_right (leb 1 b) (leb b 3) (and_left (is_used b) (same_bytes (number_of (record_of (slot_at R i))) n) h))
 
-slot_small : (R n : List ℕ) (m : Found) → find_number n R ≡ m → slots R ≤ 4096 → on_found m 0 (λ i. i) ≤ 4095
+slot_small : (R n : List ℕ) (m : Option ℕ) → find_number n R ≡ m → slots R ≤ 4096 → on_some m 0 (λ i. i) ≤ 4095
 unfolding find_number
-slot_small R n Nothing e few = omega arith
-slot_small R n (At i) e few =
+slot_small R n None e few = omega arith
+slot_small R n (Some i) e few =
     let within = (find_some (has_number n R) (slots R) i e).0 in
     omega arith
 

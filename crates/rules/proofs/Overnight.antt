@@ -3,6 +3,7 @@
 -- hit, and with the same last cycle it does not. Another file that was taken after the same last cycle has the next cycle, which is this
 -- file's too, and no cycle is its own next: then the sixth hits.
 -- Assumes nothing.
+use Rattle.std.specs.Prelude.{Option, Some, None}
 use mathlib.Core.Path.{◌≡◌, refl, sym, ◌∙◌}
 use mathlib.Core.Bool.{Bool, true, false, cond}
 use mathlib.Core.List.{List, [], ◌∷◌}
@@ -11,12 +12,10 @@ use native.Mathlib.Omega.{arith}
 use lib.Dec.{ltb, eqb}
 use lib.ListN.{length}
 use borrow.Author.Tests.{eqb-true, ne_eqb, le-leb}
-use Rattle.text.specs.Text.{member_of}
+use Rattle.text.specs.Text.{member_of, on_some}
 use Rattle.layout.specs.declared.frame.Header.{Header}
 use Rattle.layout.specs.declared.counter.Cycle.{Cycle}
-use Rattle.layout.specs.declared.counter.Turn.{Turn}
-use Rattle.layout.specs.declared.counter.Turn.TheVariants.{Cycle as a_cycle, NoCycle}
-use Rattle.layout.specs.Counters.{given_cycle, next_of, on_cycle, is_next_of}
+use Rattle.layout.specs.Counters.{given_cycle, next_of, is_next_of}
 use Rattle.rules.specs.declared.Kind.{Kind}
 use Rattle.rules.specs.Takes.{Stores, lines_in, refuse, frame_checked, checked, refused_file, taken}
 use Rattle.rules.specs.Demands.{run, SoundStores}
@@ -32,16 +31,16 @@ use Rattle.rules.proofs.KeepSound.{sound_files}
 one_next : (last c d : Cycle) → is_next_of last c ≡ true → is_next_of last d ≡ true → c.0 ≡ d.0
 one_next last c d = go (next_of last)
   where
-    go : (t : Turn) → on_cycle t false (λ n. eqb n.0 c.0) ≡ true → on_cycle t false (λ n. eqb n.0 d.0) ≡ true → c.0 ≡ d.0
-    go (a_cycle n) p q = sym (eqb-true n.0 c.0 p) ∙ eqb-true n.0 d.0 q
-    go NoCycle p q = clash-bool p refl
+    go : (t : Option Cycle) → on_some t false (λ n. eqb n.0 c.0) ≡ true → on_some t false (λ n. eqb n.0 d.0) ≡ true → c.0 ≡ d.0
+    go (Some n) p q = sym (eqb-true n.0 c.0 p) ∙ eqb-true n.0 d.0 q
+    go None p q = clash-bool p refl
 
 -- no cycle is its own next: the one after c is c + 1, the one after 999999 is 1
 not_own_next : (c d : Cycle) → c.0 ≡ d.0 → is_next_of c d ≡ false
 not_own_next c d e = go (ltb c.0 999999) (eqb c.0 999999) refl
   where
     go : (l m : Bool) → eqb c.0 999999 ≡ m
-        → on_cycle (cond l (a_cycle (record { 0 = c.0 + 1 })) (cond m (a_cycle (record { 0 = 1 })) NoCycle)) false
+        → on_some {A = Cycle} (cond l (Some (record { 0 = c.0 + 1 })) (cond m (Some (record { 0 = 1 })) None)) false
         (λ n. eqb n.0 d.0) ≡ false
     go true m q = ne_eqb (c.0 + 1) d.0 (omega arith)
     go false true q = let x = eqb-true c.0 999999 q in ne_eqb 1 d.0 (omega arith)

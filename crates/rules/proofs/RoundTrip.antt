@@ -1,5 +1,8 @@
 -- THE ROUND TRIP: a load file written from a register with no number twice, and taken into an empty one, brings back every entry;
 -- and what a run leaves is fit for it. Assumes nothing.
+use Rattle.std.proofs.lemmas.Bool.{not-false}
+use Rattle.text.specs.Text.{on_some}
+use Rattle.std.specs.Prelude.{Option, Some, None, Ok}
 use mathlib.Core.Path.{◌≡◌, refl, sym, ap, ◌∙◌, subst}
 use mathlib.Core.Bool.{Bool, true, false, ◌&&◌, not, cond}
 use mathlib.Core.List.{List, [], ◌∷◌, ◌++◌}
@@ -12,25 +15,17 @@ use lib.ListN.{length, drop, get_or, replicate, replicate-append-replicate}
 use lib.Seq.{take_at}
 use borrow.Author.Tests.{leb-true, eqb-true, ltb-true, ltb-false, le-leb, le-ltb, eq-eqb}
 use Rattle.text.proofs.Laws.{and_left, and_right}
-use Rattle.calendar.specs.declared.Date.TheVariants.{Day as a_day}
 use Rattle.calendar.specs.Calendar.{is_before}
 use Rattle.layout.specs.declared.frame.Header.{Header}
-use Rattle.layout.specs.declared.frame.Opened.{Opened}
-use Rattle.layout.specs.declared.frame.Opened.TheVariants.{Header as a_header, Wrong}
 use Rattle.layout.specs.Tables.{header_table, trailer_table, data_record, start_of, function, source}
-use Rattle.layout.specs.declared.frame.Closed.TheVariants.{Trailer as a_trailer}
 use Rattle.layout.specs.declared.counter.Cycle.{Cycle}
-use Rattle.layout.specs.declared.counter.Turn.TheVariants.{Cycle as a_cycle, NoCycle}
-use Rattle.layout.specs.Counters.{given_cycle, on_cycle, is_next_of}
+use Rattle.layout.specs.Counters.{given_cycle, is_next_of}
 use Rattle.layout.specs.Fields.{function_of, for_load}
-use Rattle.layout.specs.Frames.{header_of, on_header, trailer_of}
+use Rattle.layout.specs.Frames.{header_of, trailer_of}
 use Rattle.versions.specs.declared.Version.{Version}
 use Rattle.versions.specs.Versions.{fits_in}
 use Rattle.rules.specs.declared.Kind.TheVariants.{Data}
-use Rattle.rules.specs.declared.Found.{Found}
-use Rattle.rules.specs.declared.Found.TheVariants.{At, Nothing}
-use Rattle.rules.specs.declared.Checked.TheVariants.{Good}
-use Rattle.rules.specs.Walks.{find, count, on_found}
+use Rattle.rules.specs.Walks.{find, count}
 use Rattle.rules.specs.Slots.{slots, slot_at, state_of, slot_day, record_of, with_slot, is_live, register_sound, row_slots, row_slot_at, is_present, row_of}
 use Rattle.rules.specs.Covers.{covers}
 use Rattle.rules.specs.Records.{is_over, find_row, Step, applied}
@@ -38,7 +33,7 @@ use Rattle.rules.specs.Takes.{Stores, shape_of, line_at, lines_in, bad_line, lin
 use Rattle.rules.specs.Loads.{entry_at, entries_in, header_for, trailer_for, load_file, load_size, load_header, later_at, wide_at, narrow_refusal, header_refusal, load_refusal, loaded}
 use Rattle.rules.specs.Demands.{File, start, run, live_at, OneSlot, Lies, AllLie}
 use Rattle.rules.specs.Circle.{OneEntry, AllZoned, Fit, Trip, file_of, Back, Returned, RoundTrip}
-use Rattle.rules.proofs.WalkLaws.{clash-bool, and_both, and_rest, not_false, find_none, find_nowhere, find_hit}
+use Rattle.rules.proofs.WalkLaws.{clash-bool, and_both, and_rest, find_none, find_nowhere, find_hit}
 use Rattle.rules.proofs.SlotLaws.{Whole, state_slot, day_slot, record_slot, whole_at, empty_sound}
 use Rattle.rules.proofs.TakeLaws.{good_is}
 use Rattle.rules.proofs.KeepStores.{used_live}
@@ -57,7 +52,7 @@ pub record Written (v : Version) (R date company : List ℕ) (c room : ℕ) : Ty
   pub six : length date ≡ 6
   pub fifty : length company ≡ 50
   pub opening : Header
-  pub opens : header_of (header_table (shape_of (Data v)).frame) (header_for v date company c) ≡ a_header opening
+  pub opens : header_of (header_table (shape_of (Data v)).frame) (header_for v date company c) ≡ Some opening
   pub early : (i : ℕ) → live_at R i → is_before opening.day (slot_day (slot_at R i)) ≡ false
   pub narrow : (i : ℕ) → live_at R i → fits_in v (record_of (slot_at R i)) ≡ true
   pub fits : load_size v R ≤ room
@@ -73,16 +68,16 @@ not_refused v R date company c out e = go (eqb (load_refusal v R date company c 
     go false q = rw q at e
 
 -- a header that is there has date and name of the right lengths
-header_there : (v : Version) (date company : List ℕ) (c : ℕ) (h : Header) → load_header v date company c ≡ a_header h
+header_there : (v : Version) (date company : List ℕ) (c : ℕ) (h : Header) → load_header v date company c ≡ Some h
     → (length date ≡ 6)
-    × ((length company ≡ 50) × (header_of (header_table (shape_of (Data v)).frame) (header_for v date company c) ≡ a_header h))
+    × ((length company ≡ 50) × (header_of (header_table (shape_of (Data v)).frame) (header_for v date company c) ≡ Some h))
 unfolding load_header
 header_there v date company c h e = go (eqb (length date) 6) refl (eqb (length company) 50) refl e
   where
     go : (x : Bool) → eqb (length date) 6 ≡ x → (y : Bool) → eqb (length company) 50 ≡ y
-        → cond (x && y) (header_of (header_table (shape_of (Data v)).frame) (header_for v date company c)) Wrong ≡ a_header h
+        → cond (x && y) (header_of (header_table (shape_of (Data v)).frame) (header_for v date company c)) None ≡ Some h
         → (length date ≡ 6)
-        × ((length company ≡ 50) × (header_of (header_table (shape_of (Data v)).frame) (header_for v date company c) ≡ a_header h))
+        × ((length company ≡ 50) × (header_of (header_table (shape_of (Data v)).frame) (header_for v date company c) ≡ Some h))
     go true p true q e = (eqb-true (length date) 6 p, (eqb-true (length company) 50 q, e))
     go true p false q e = let z : ◌≡◌ {A = ℕ} 0 1 = cc in absurd (omega arith)
     go false p y q e = let z : ◌≡◌ {A = ℕ} 0 1 = cc in absurd (omega arith)
@@ -97,17 +92,17 @@ written_is v R date company c room e = go (register_sound R) refl (load_header v
     room_there true q z = leb-true (load_size v R) room q
     room_there false q z = absurd (omega arith)
 
-    found : (h : Header) → register_sound R ≡ true → load_header v date company c ≡ a_header h
-        → (o : Found) → find (later_at h.day R) (slots R) ≡ o
-        → (w : Found) → find (wide_at v R) (slots R) ≡ w
-        → ◌≡◌ {A = ℕ} (on_found o (on_found w (cond (leb (load_size v R) room) 0 25) (λ i. 27)) (λ i. 26)) 0 → Written v R date company c room
-    found h s q (At i) f w g e = absurd (omega arith)
-    found h s q Nothing f (At i) g e = absurd (omega arith)
-    found h s q Nothing f Nothing g e =
+    found : (h : Header) → register_sound R ≡ true → load_header v date company c ≡ Some h
+        → (o : Option ℕ) → find (later_at h.day R) (slots R) ≡ o
+        → (w : Option ℕ) → find (wide_at v R) (slots R) ≡ w
+        → ◌≡◌ {A = ℕ} (on_some o (on_some w (cond (leb (load_size v R) room) 0 25) (λ i. 27)) (λ i. 26)) 0 → Written v R date company c room
+    found h s q (Some i) f w g e = absurd (omega arith)
+    found h s q None f (Some i) g e = absurd (omega arith)
+    found h s q None f None g e =
         let t = header_there v date company c h q in
         record {
           narrow = λ i u.
-              not_false (fits_in v (record_of (slot_at R i)))
+              not-false (fits_in v (record_of (slot_at R i)))
               (and_rest (is_live (state_of (slot_at R i))) (not (fits_in v (record_of (slot_at R i)))) u.1
               (find_none (wide_at v R) (slots R) g i u.0));
           sound = s;
@@ -121,13 +116,13 @@ written_is v R date company c room e = go (register_sound R) refl (load_header v
           fits = room_there (leb (load_size v R) room) refl e;
         }
 
-    go : (b : Bool) → register_sound R ≡ b → (o : Opened) → load_header v date company c ≡ o
+    go : (b : Bool) → register_sound R ≡ b → (o : Option Header) → load_header v date company c ≡ o
         → ◌≡◌ {A = ℕ}
-        (cond b (on_header o 26 (λ h. on_found (find (later_at h.day R) (slots R)) (narrow_refusal v R room) (λ i. 26))) 1) 0
+        (cond b (on_some o 26 (λ h. on_some (find (later_at h.day R) (slots R)) (narrow_refusal v R room) (λ i. 26))) 1) 0
         → Written v R date company c room
     go false s o q e = absurd (omega arith)
-    go true s Wrong q e = absurd (omega arith)
-    go true s (a_header h) q e = found h s q (find (later_at h.day R) (slots R)) refl (find (wide_at v R) (slots R)) refl e
+    go true s None q e = absurd (omega arith)
+    go true s (Some h) q e = found h s q (find (later_at h.day R) (slots R)) refl (find (wide_at v R) (slots R)) refl e
 
 -- the bytes written are the file
 file_is : (v : Version) (R date company : List ℕ) (c : ℕ) (out : List ℕ) → load_refusal v R date company c (length out) ≡ 0
@@ -164,7 +159,7 @@ back_is s k e =
     let q : record_of (copy_of r) ≡ for_load r = record_slot 1 (day_in r) (for_load r) w in
     record {
       state = state_slot 1 (day_in r) (for_load r);
-      dated = e.dated ∙ ap a_day (sym d);
+      dated = e.dated ∙ ap Some (sym d);
       day = λ h. d ∙ e.same h;
       coded = ap (λ x. get_or x (start_of data_record function) 0) q ∙ function_load r k;
       marked = ap (λ x. get_or x (start_of data_record source) 0) q ∙ source_load r k;
@@ -176,7 +171,7 @@ next_range : (last c : ℕ) → is_next_of (given_cycle last) (given_cycle c) �
 next_range last c e = go (ltb last 999999) refl (eqb last 999999) e
   where
     go : (x : Bool) → ltb last 999999 ≡ x → (y : Bool)
-        → on_cycle (cond x (a_cycle (given_cycle (last + 1))) (cond y (a_cycle (given_cycle 1)) NoCycle)) false (λ t. eqb t.0 c)
+        → on_some (cond x (Some (given_cycle (last + 1))) (cond y (Some (given_cycle 1)) None)) false (λ t. eqb t.0 c)
         ≡ true
         → (1 ≤ c) × (c ≤ 999999)
     go true p y e =
@@ -262,7 +257,7 @@ module _ (v : Version) (R G date company : List ℕ) (c : ℕ) (out answers : Li
   -- ---- it passes the checks
 
   -- each of its lines keeps the field rules
-  lines_keep : find (bad_line (Data v) f) (entries_in R) ≡ Nothing
+  lines_keep : find (bad_line (Data v) f) (entries_in R) ≡ None
   unfolding bad_line entries_in entry_at
   lines_keep = find_nowhere (bad_line (Data v) f) (entries_in R) (λ x l. go x (counted_as (entry_at R) (slots R) x l))
     where
@@ -285,12 +280,12 @@ module _ (v : Version) (R G date company : List ℕ) (c : ℕ) (out answers : Li
 
   -- the trailer has the count of its lines
   closes : trailer_of (trailer_table (shape_of (Data v)).frame) (header_for v date company c) (trailer_for v date company (entries_in R))
-      ≡ a_trailer (record { 0 = entries_in R })
+      ≡ Some (record { 0 = entries_in R })
   unfolding header_for trailer_for
   closes = trailer_read v date company w.six w.fifty c (entries_in R) h (omega (arith, t.enough, t.few)) w.opens
 
   -- and nothing is refused
-  passes : checked (Data v) (empty n G) f (length answers) (given_cycle last) ≡ Good h
+  passes : checked (Data v) (empty n G) f (length answers) (given_cycle last) ≡ Ok h
   unfolding checked frame_checked trailer_checked lines_checked
   passes =
       rw (
@@ -349,7 +344,7 @@ round_trip v R G date company c out answers last n t =
 -- ---- what a run leaves is fit for it
 
 -- the one row over a record is the lowest
-lowest_is : (G r : List ℕ) (k : ℕ) → Lies G r k → find_row r G ≡ At k
+lowest_is : (G r : List ℕ) (k : ℕ) → Lies G r k → find_row r G ≡ Some k
 unfolding find_row is_over
 lowest_is G r k l =
     find_hit (is_over r G) (row_slots G) k none
@@ -363,7 +358,7 @@ lowest_is G r k l =
         let q : j ≡ k = l.alone j (omega (arith, l.there.0), and_left p v e) (and_right p v e) in
         absurd (omega arith)
 
-    none : find (is_over r G) k ≡ Nothing
+    none : find (is_over r G) k ≡ None
     none = find_nowhere (is_over r G) k (λ j h. go j h (is_over r G j) refl)
 
 -- after any run from empty stores

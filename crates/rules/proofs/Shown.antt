@@ -1,18 +1,17 @@
 -- What lookup shows after any run: a number's state by the history, and the number's entry.
 -- Assumes nothing.
+use Rattle.std.specs.Prelude.{Option, Some, None}
 use mathlib.Core.Path.{◌≡◌, refl, sym, ◌∙◌}
 use mathlib.Core.Bool.{Bool, true}
 use mathlib.Core.List.{List}
 use Prim.Native.Nat.{ℕ, ◌*◌, ◌≤◌}
 use lib.ListN.{replicate, length-replicate}
 use borrow.Author.Tests.{eqb-true}
-use Rattle.text.specs.Text.{same_bytes}
+use Rattle.text.specs.Text.{same_bytes, on_some}
 use Rattle.text.proofs.Laws.{and_left, and_right, same_true}
 use Rattle.layout.specs.Fields.{number_of}
 use Rattle.rules.specs.declared.Code.{Code}
-use Rattle.rules.specs.declared.Found.{Found}
-use Rattle.rules.specs.declared.Found.TheVariants.{At, Nothing}
-use Rattle.rules.specs.Walks.{find, on_found}
+use Rattle.rules.specs.Walks.{find}
 use Rattle.rules.specs.Slots.{good_length, slots, slot_at, state_of, record_of, is_held, is_open, is_used, is_live}
 use Rattle.rules.specs.Records.{stores, has_number, find_number, state_in}
 use Rattle.rules.specs.Lookups.{seen_in, seen}
@@ -33,9 +32,9 @@ module _ (R n : List ℕ) (p : ℕ → Bool) (used : (b : ℕ) → p b ≡ true 
   unfolding seen_in find_number has_number
   its h = go (find (has_number n R) (slots R)) refl h
     where
-      go : (o : Found) → find (has_number n R) (slots R) ≡ o → p (state_in R o) ≡ true
-          → (s : InState R n p) × (s.slot ≡ on_found o 0 (λ i. i))
-      go (At i) e h =
+      go : (o : Option ℕ) → find (has_number n R) (slots R) ≡ o → p (state_in R o) ≡ true
+          → (s : InState R n p) × (s.slot ≡ on_some o 0 (λ i. i))
+      go (Some i) e h =
           let t = find_some (has_number n R) (slots R) i e in
           let s = number_of (record_of (slot_at R i)) in (
             record {
@@ -46,15 +45,15 @@ module _ (R n : List ℕ) (p : ℕ → Bool) (used : (b : ℕ) → p b ≡ true 
             },
             refl,
           )
-      go Nothing e h = clash-bool (used 0 h) refl
+      go None e h = clash-bool (used 0 h) refl
 
   -- where no number has two slots, the state shown passes it if some slot of the number does
   only_its : OneSlot R → InState R n p → p (seen_in R n).state ≡ true
   unfolding seen_in find_number has_number OneSlot
   only_its one s = go (find (has_number n R) (slots R)) refl
     where
-      go : (o : Found) → find (has_number n R) (slots R) ≡ o → p (state_in R (find (has_number n R) (slots R))) ≡ true
-      go (At i) e =
+      go : (o : Option ℕ) → find (has_number n R) (slots R) ≡ o → p (state_in R (find (has_number n R) (slots R))) ≡ true
+      go (Some i) e =
           let t = find_some (has_number n R) (slots R) i e in
           let u = is_used (state_of (slot_at R i)) in
           let m = number_of (record_of (slot_at R i)) in
@@ -62,7 +61,7 @@ module _ (R n : List ℕ) (p : ℕ → Bool) (used : (b : ℕ) → p b ≡ true 
           one i s.slot (t.0, and_left u (same_bytes m n) t.1) (s.within, used (state_of (slot_at R s.slot)) s.state)
           (same_true m n (and_right u (same_bytes m n) t.1) ∙ sym s.named) in
           rw (e, z) s.state
-      go Nothing e = absurd (absent R n e s.slot (s.within, used (state_of (slot_at R s.slot)) s.state) s.named)
+      go None e = absurd (absent R n e s.slot (s.within, used (state_of (slot_at R s.slot)) s.state) s.named)
 
 -- ---- after a run
 

@@ -1,5 +1,6 @@
 -- Slots: what is written into one is read back, the other slots stay, and a store of zeros is sound and has nothing in it.
 -- Assumes nothing.
+use Rattle.std.specs.Prelude.{None}
 use mathlib.Core.Path.{◌≡◌, refl, sym, ap, ◌∙◌}
 use mathlib.Core.Logic.{◌≢◌}
 use mathlib.Core.Bool.{true, false}
@@ -15,7 +16,6 @@ use Rattle.text.proofs.Laws.{and_left, and_right}
 use Rattle.calendar.specs.declared.Day.{Day}
 use Rattle.calendar.specs.declared.Reading.TheVariants.{Present}
 use Rattle.calendar.proofs.DayLaws.{bytes_back}
-use Rattle.rules.specs.declared.Found.TheVariants.{Nothing}
 use Rattle.rules.specs.Walks.{find}
 use Rattle.rules.specs.Slots.{place, good_length, slots, slot_at, with_slot, state_of, slot_day, record_of, slot_head, slot_of, restated, written, is_zero, used_sound, slot_sound, unsound_slot, register_sound, unsound_by, register_sound_by, row_slots, row_slot_at, with_row_slot, is_present, is_vacant, row_of, row_head, row_slot_of, row_written, free_row_slot, row_slot_sound, unsound_row_slot, guide_sound}
 use Rattle.rules.proofs.WalkLaws.{find_nowhere, and_both}
@@ -271,7 +271,7 @@ unfolding register_sound good_length unsound_slot
 empty_sound n a b =
     let R : List ℕ = replicate (n * 520) 0 in
     let e : length R % 520 ≡ 0 = rw length-replicate (omega arith) in
-    let o : find (unsound_slot R) (slots R) ≡ Nothing =
+    let o : find (unsound_slot R) (slots R) ≡ None =
     find_nowhere (unsound_slot R) (slots R) (λ i l. rw (zero_sound (slot_at R i) (zero_place 520 (n * 520) i))) in
     rw (o, e, empty_slots n, le-leb 1 n a, le-leb n 4096 b)
 
@@ -280,7 +280,7 @@ unfolding guide_sound good_length unsound_row_slot
 empty_guide_sound n a b =
     let G : List ℕ = replicate (n * 208) 0 in
     let e : length G % 208 ≡ 0 = rw length-replicate (omega arith) in
-    let o : find (unsound_row_slot G) (row_slots G) ≡ Nothing =
+    let o : find (unsound_row_slot G) (row_slots G) ≡ None =
     find_nowhere (unsound_row_slot G) (row_slots G) (λ i l. rw (zero_row_sound (row_slot_at G i) (zero_place 208 (n * 208) i))) in
     rw (o, e, empty_row_slots n, le-leb 1 n a, le-leb n 4096 b)
 

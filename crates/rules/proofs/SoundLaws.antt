@@ -1,8 +1,9 @@
 -- When what is stored is sound: a record of good form keeps it when its blank ESN is filled in from a row of good form. Assumes nothing.
+use Rattle.std.proofs.lemmas.Bool.{not-true}
 use mathlib.Core.Path.{◌≡◌, refl, ◌∙◌}
 use mathlib.Core.Bool.{Bool, true, false, not, ◌&&◌, ◌||◌, cond}
 use mathlib.Core.List.{List, [], ◌∷◌}
-use Prim.Native.Nat.{ℕ, zero, suc, ◌+◌, ◌-◌, ◌≤◌}
+use Prim.Native.Nat.{ℕ, zero, suc, ◌+◌, ◌≤◌}
 use native.Mathlib.Omega.{arith}
 use lib.Dec.{leb, eqb}
 use lib.ListN.{drop}
@@ -14,7 +15,6 @@ use Rattle.layout.specs.Tables.{data_record, guide_row, start_of, row_esn, zone,
 use Rattle.layout.specs.Fields.{function_of, esn_of, has_esn, row_esn_of, with_esn}
 use Rattle.layout.specs.Rules.{keeps, keeps_other, is_whole, fault_by, from_zero, or_else, fault_in, is_lax, record_fault, row_fault}
 use Rattle.rules.specs.Records.{shown}
-use Rattle.rules.proofs.WalkLaws.{not_true}
 use Rattle.rules.proofs.SlotLaws.{Whole, WholeRow}
 use Rattle.rules.proofs.EsnLaws.{esn_at, esn_size, clear_of_esn, esn_with, part_with, function_with, shown_has, shown_blank, has_shown}
 
@@ -91,7 +91,7 @@ unfolding fault_by
 fault_alike at n r lax s t f e =
     let a = eqb r high_end in
     let b = eqb r parity_letter in
-    rw (not_true a (and_left (not a) (not b) e), not_true b (and_right (not a) (not b) e)) refl
+    rw (not-true a (and_left (not a) (not b) e), not-true b (and_right (not a) (not b) e)) refl
 
 -- ---- a row's ESN
 

@@ -1,5 +1,6 @@
 -- Taking a file: what is not accepted leaves everything as it is; there is one answer for each line, and the history has the lines
 -- answered 0. Assumes nothing.
+use Rattle.std.specs.Prelude.{Option, Some, None, Result, Ok, Err}
 use mathlib.Core.Path.{◌≡◌, refl, ap, subst, ◌∙◌}
 use mathlib.Core.Logic.{◌≢◌}
 use mathlib.Core.Bool.{Bool, true, false, cond}
@@ -19,11 +20,7 @@ use Rattle.layout.specs.Counters.{given_cycle}
 use Rattle.rules.specs.declared.Kind.{Kind}
 use Rattle.rules.specs.declared.Kind.TheVariants.{Data, Guide}
 use Rattle.rules.specs.declared.Code.{Code}
-use Rattle.rules.specs.declared.Filed.{Filed}
-use Rattle.rules.specs.declared.Filed.TheVariants.{Record, NoRecord}
 use Rattle.rules.specs.declared.Refusal.{Refusal}
-use Rattle.rules.specs.declared.Checked.{Checked}
-use Rattle.rules.specs.declared.Checked.TheVariants.{Good, Refused}
 use Rattle.rules.specs.Records.{filed_of, answer_of, register_after, Step, step, applied}
 use Rattle.rules.specs.Rows.{row_code_of, row_answer_of, guide_after, row_applied}
 use Rattle.rules.specs.Takes.{shape_of, Stores, line_at, lines_in, checked, line_applied, after, answer_at, answers_to, zeros_in, others_in, refused_file, applied_file, taken}
@@ -42,9 +39,9 @@ applied_not R G h r n = go (filed_of r) n
     tested true x y e f n = absurd (n e)
     tested false x y e f n = f
 
-    go : (f : Filed) → (step R G h r f).answer ≢ 0 → (step R G h r f).register ≡ R
-    go NoRecord n = refl
-    go (Record c d) n =
+    go : (f : Option (Code × Day)) → (step R G h r f).answer ≢ 0 → (step R G h r f).register ≡ R
+    go None n = refl
+    go (Some (c, d)) n =
         tested (eqb (answer_of R G h r c d) 0)
         (record { answer = 0; register = register_after R G h r c d })
         (record { answer = answer_of R G h r c d; register = R })
@@ -54,7 +51,7 @@ applied_not R G h r n = go (filed_of r) n
 pub record Accepted (R G : List ℕ) (h : Header) (r : List ℕ) : Type 0 where
   pub code : Code
   pub date : Day
-  pub filed : filed_of r ≡ Record code date
+  pub filed : filed_of r ≡ Some (code, date)
   pub answered : answer_of R G h r code date ≡ 0
   pub result : (applied R G h r).register ≡ register_after R G h r code date
 
@@ -62,8 +59,8 @@ pub accepted : (R G : List ℕ) (h : Header) (r : List ℕ) → (applied R G h r
 unfolding applied step
 accepted R G h r e = go (filed_of r) refl e
   where
-    tested : (c : Code) (d : Day) (b : Bool) → filed_of r ≡ Record c d → eqb (answer_of R G h r c d) 0 ≡ b
-        → (step R G h r (Record c d)).answer ≡ 0 → Accepted R G h r
+    tested : (c : Code) (d : Day) (b : Bool) → filed_of r ≡ Some (c, d) → eqb (answer_of R G h r c d) 0 ≡ b
+        → (step R G h r (Some (c, d))).answer ≡ 0 → Accepted R G h r
     tested c d true f q e =
         record {
           code = c;
@@ -74,9 +71,9 @@ accepted R G h r e = go (filed_of r) refl e
         }
     tested c d false f q e = absurd (eqb-false (answer_of R G h r c d) 0 q (rw q at e))
 
-    go : (f : Filed) → filed_of r ≡ f → (step R G h r f).answer ≡ 0 → Accepted R G h r
-    go NoRecord q e = absurd (omega arith)
-    go (Record c d) q e = tested c d (eqb (answer_of R G h r c d) 0) q refl e
+    go : (f : Option (Code × Day)) → filed_of r ≡ f → (step R G h r f).answer ≡ 0 → Accepted R G h r
+    go None q e = absurd (omega arith)
+    go (Some (c, d)) q e = tested c d (eqb (answer_of R G h r c d) 0) q refl e
 
 -- and what it did is known by the view
 pub accepted_took : (R G : List ℕ) (h : Header) (r : List ℕ) (a : Accepted R G h r)
@@ -203,9 +200,9 @@ history_length k h f s past (suc i) =
 -- ---- a refusal has a number
 
 -- what the checks say is good, or has a number that is not 0
-abbrev Numbered : Checked → Type 0
-Numbered (Good h) = Unit {0}
-Numbered (Refused r) = 0 < r.number
+abbrev Numbered : Result Header Refusal → Type 0
+Numbered (Ok h) = Unit {0}
+Numbered (Err r) = 0 < r.number
 
 -- so is what the checks of a file say
 numbered : (k : Kind) (s : Stores) (f : List ℕ) (room : ℕ) (last : Cycle) → Numbered (checked k s f room last)
@@ -217,7 +214,7 @@ numbered k s f room last =
 
 module _ (k : Kind) (s : Stores) (f answers : List ℕ) (last : ℕ) where
   -- the checks refuse it
-  module _ (r : Refusal) (e : checked k s f (length answers) (given_cycle last) ≡ Refused r) where
+  module _ (r : Refusal) (e : checked k s f (length answers) (given_cycle last) ≡ Err r) where
     -- what a refused file returns and leaves
     pub refused_is : taken k s f answers last ≡ refused_file r s answers last
     unfolding taken
@@ -239,7 +236,7 @@ module _ (k : Kind) (s : Stores) (f answers : List ℕ) (last : ℕ) where
     refused_history past = rw e
 
   -- it passes the checks
-  module _ (h : Header) (e : checked k s f (length answers) (given_cycle last) ≡ Good h) where
+  module _ (h : Header) (e : checked k s f (length answers) (given_cycle last) ≡ Ok h) where
     -- each of its lines is applied
     pub good_is : taken k s f answers last ≡ applied_file k h s f answers
     unfolding taken
@@ -256,12 +253,12 @@ module _ (k : Kind) (s : Stores) (f answers : List ℕ) (last : ℕ) where
     good_history past = rw e
 
   -- a file is refused exactly if the number returned is not 0
-  pub refused_number : (r : Refusal) → checked k s f (length answers) (given_cycle last) ≡ Refused r
+  pub refused_number : (r : Refusal) → checked k s f (length answers) (given_cycle last) ≡ Err r
       → 0 < (taken k s f answers last).result.refusal
   unfolding refused_file
   refused_number r e = rw (refused_is r e) (subst Numbered e (numbered k s f (length answers) (given_cycle last)))
 
-  pub good_number : (h : Header) → checked k s f (length answers) (given_cycle last) ≡ Good h
+  pub good_number : (h : Header) → checked k s f (length answers) (given_cycle last) ≡ Ok h
       → (taken k s f answers last).result.refusal ≡ 0
   unfolding applied_file
   good_number h e = rw (good_is h e)
@@ -271,7 +268,7 @@ module _ (k : Kind) (s : Stores) (f answers : List ℕ) (last : ℕ) where
       → ((taken k s f answers last).stores ≡ s) × ((taken k s f answers last).answers ≡ answers)
   not_taken n = go (checked k s f (length answers) (given_cycle last)) refl
     where
-      go : (c : Checked) → checked k s f (length answers) (given_cycle last) ≡ c
+      go : (c : Result Header Refusal) → checked k s f (length answers) (given_cycle last) ≡ c
           → ((taken k s f answers last).stores ≡ s) × ((taken k s f answers last).answers ≡ answers)
-      go (Good h) e = absurd (n (good_number h e))
-      go (Refused r) e = (refused_stores r e, refused_answers r e)
+      go (Ok h) e = absurd (n (good_number h e))
+      go (Err r) e = (refused_stores r e, refused_answers r e)

@@ -1,5 +1,7 @@
 -- The entries of a sound register, inserted one after the other into an empty one: each goes into the next free slot.
 -- Assumes nothing.
+use Rattle.std.proofs.lemmas.Bool.{not-true}
+use Rattle.std.specs.Prelude.{Option, Some, None}
 use mathlib.Core.Path.{◌≡◌, refl, sym, ap, ◌∙◌}
 use mathlib.Core.Logic.{◌≢◌}
 use mathlib.Core.Bool.{Bool, true, false, ◌&&◌, ◌||◌, not}
@@ -10,26 +12,22 @@ use native.Mathlib.Omega.{arith}
 use lib.Dec.{eqb}
 use lib.ListN.{length, replicate, length-replicate, replicate-append-replicate}
 use borrow.Author.Tests.{eqb-true, leb-true, ltb-false}
-use Rattle.text.specs.Text.{part}
+use Rattle.text.specs.Text.{part, on_some}
 use Rattle.text.proofs.Laws.{and_left, and_right, and_false, same_refl}
 use Rattle.calendar.specs.declared.Day.{Day}
-use Rattle.calendar.specs.declared.Date.{Date}
-use Rattle.calendar.specs.declared.Date.TheVariants.{Day as a_day, NoDate}
-use Rattle.calendar.specs.Calendar.{on_day, is_before, on_calendar, no_later}
+use Rattle.calendar.specs.Calendar.{is_before, on_calendar, no_later}
 use Rattle.layout.specs.declared.frame.Header.{Header}
 use Rattle.layout.specs.Tables.{data_record}
 use Rattle.layout.specs.Fields.{function_of, number_of, esn_of, has_esn, date_of, row_esn_of, for_load}
 use Rattle.layout.specs.Rules.{is_lax, record_fault}
 use Rattle.rules.specs.declared.Code.TheVariants.{Insert}
-use Rattle.rules.specs.declared.Filed.TheVariants.{Record}
-use Rattle.rules.specs.declared.Found.TheVariants.{At, Nothing}
 use Rattle.rules.specs.Walks.{find, count, first}
 use Rattle.rules.specs.Slots.{place, slots, slot_at, with_slot, state_of, slot_day, record_of, slot_of, is_held, is_used, is_entry_code, fits_slot, day_fits, register_sound, row_slot_at, row_of}
 use Rattle.rules.specs.Records.{filed_of, has_number, find_number, find_row, free_at, find_free, find_spare, answer_of, shown, register_after, step, applied}
 use Rattle.rules.specs.Loads.{entry_at}
 use Rattle.rules.specs.Demands.{live_at}
 use Rattle.rules.specs.Circle.{OneEntry, Zoned}
-use Rattle.rules.proofs.WalkLaws.{clash-bool, not_true, find_nowhere, find_hit}
+use Rattle.rules.proofs.WalkLaws.{clash-bool, find_nowhere, find_hit}
 use Rattle.rules.proofs.SlotLaws.{Whole, zero_zeros, zero_free, state_slot, record_slot, length_slot, whole_at, slot_same, slot_other, length_with}
 use Rattle.rules.proofs.KeepStores.{used_live, differ}
 use Rattle.rules.proofs.KeepSound.{slots_sound, record_fits, Used, used_sound_lem}
@@ -41,7 +39,7 @@ use Rattle.rules.proofs.FileLaws.{count_below, CountedAs, counted_as}
 
 -- the date in a record
 abbrev pub day_in : List ℕ → Day
-day_in r = on_day (date_of r) (record { 0 = 0 }) (λ d. d)
+day_in r = on_some (date_of r) (record { 0 = 0 }) (λ d. d)
 
 -- the slot that its line fills
 abbrev pub copy_of : List ℕ → List ℕ
@@ -52,7 +50,7 @@ pub record Entry (s : List ℕ) : Type 0 where
   pub good : record_fault data_record (record_of s) ≡ 0
   pub strict : is_lax (function_of (record_of s)) ≡ false
   pub zoned : has_esn (record_of s) ≡ true
-  pub dated : date_of (record_of s) ≡ a_day (day_in (record_of s))
+  pub dated : date_of (record_of s) ≡ Some (day_in (record_of s))
   pub small : (day_in (record_of s)).0 ≤ 36524
   pub early : is_before (slot_day s) (day_in (record_of s)) ≡ false
   pub same : is_held (state_of s) ≡ true → day_in (record_of s) ≡ slot_day s
@@ -74,7 +72,7 @@ same_day d e p = ap (λ (x : ℕ). record { 0 = x }) p
 day_early : (b : ℕ) (day date : Day) → day_fits b day date ≡ true → is_before day date ≡ false
 unfolding day_fits
 day_early b day date e =
-    not_true (is_before day date)
+    not-true (is_before day date)
     (and_left (not (is_before day date)) ((not (is_held b) || not (is_before date day)) && on_calendar day) e)
 
 day_held : (b : ℕ) (day date : Day) → day_fits b day date ≡ true → is_held b ≡ true → date ≡ day
@@ -84,7 +82,7 @@ day_held b day date e h =
     let q = not (is_held b) || not (is_before date day) in
     let x = and_left q (on_calendar day) (and_right p (q && on_calendar day) e) in
     let y : not (is_before date day) ≡ true = rw h at x in
-    let i = ltb-false date.0 day.0 (not_true (is_before date day) y) in
+    let i = ltb-false date.0 day.0 (not-true (is_before date day) y) in
     let j = ltb-false day.0 date.0 (day_early b day date e) in
     same_day date day (omega arith)
 
@@ -96,10 +94,10 @@ entry_is R e i u =
     let v = used_sound_lem s ((slots_sound R e).each i u.0) (used_live (state_of s) u.1) in
     go s v (date_of (record_of s)) refl v.dated (record_fits (record_of s))
   where
-    go : (s : List ℕ) → Used s → (x : Date) → date_of (record_of s) ≡ x
-        → on_day x false (λ d. day_fits (state_of s) (slot_day s) d) ≡ true → no_later (date_of (record_of s)) ≡ true → Entry s
-    go s v NoDate q d l = clash-bool d refl
-    go s v (a_day x) q d l =
+    go : (s : List ℕ) → Used s → (x : Option Day) → date_of (record_of s) ≡ x
+        → on_some x false (λ d. day_fits (state_of s) (slot_day s) d) ≡ true → no_later (date_of (record_of s)) ≡ true → Entry s
+    go s v None q d l = clash-bool d refl
+    go s v (Some x) q d l =
         let a = eqb (record_fault data_record (record_of s)) 0 in
         let b = is_entry_code (function_of (record_of s)) in
         let c = has_esn (record_of s) in
@@ -109,7 +107,7 @@ entry_is R e i u =
           good = eqb-true (record_fault data_record (record_of s)) 0 (and_left a (b && c) v.fits);
           strict = not_lax (function_of (record_of s)) (and_left b c w);
           zoned = and_right b c w;
-          dated = q ∙ ap a_day (sym z);
+          dated = q ∙ ap Some (sym z);
           small = rw q (leb-true x.0 36524 (rw q at l));
           early = rw q (day_early (state_of s) (slot_day s) x d);
           same = λ h. z ∙ day_held (state_of s) (slot_day s) x d h;
@@ -118,14 +116,14 @@ entry_is R e i u =
 -- ---- an insert that is taken
 
 -- a record of 512 bytes with code I and a date
-filed_load : (r : List ℕ) → Whole r → date_of r ≡ a_day (day_in r) → filed_of (for_load r) ≡ Record Insert (day_in r)
+filed_load : (r : List ℕ) → Whole r → date_of r ≡ Some (day_in r) → filed_of (for_load r) ≡ Some (Insert, (day_in r))
 unfolding filed_of
 filed_load r w d = rw (whole_load r w, date_load r w, d, function_load r w)
 
 -- r is inserted under the row in guide slot g, into the spare slot k
-insert_done : (E G : List ℕ) (h : Header) (r : List ℕ) (d : Day) (g k : ℕ) → filed_of r ≡ Record Insert d
-    → is_before h.day d ≡ false → has_esn r ≡ true → find_number (number_of r) E ≡ Nothing → find_row r G ≡ At g
-    → esn_of r ≡ row_esn_of (row_of (row_slot_at G g)) → find_spare h.day E ≡ At k
+insert_done : (E G : List ℕ) (h : Header) (r : List ℕ) (d : Day) (g k : ℕ) → filed_of r ≡ Some (Insert, d)
+    → is_before h.day d ≡ false → has_esn r ≡ true → find_number (number_of r) E ≡ None → find_row r G ≡ Some g
+    → esn_of r ≡ row_esn_of (row_of (row_slot_at G g)) → find_spare h.day E ≡ Some k
     → applied E G h r ≡ record { answer = 0; register = with_slot E k (slot_of 1 d r) }
 unfolding applied step answer_of register_after first shown
 insert_done E G h r d g k f t w m o z p =
@@ -223,7 +221,7 @@ module _ (R : List ℕ) (n i : ℕ) (E : List ℕ) (p : Reached R n i E) (l : i 
   above_is x h b = ap state_of (p.free x h b) ∙ zero_free (zeros 520) (zero_zeros 520)
 
   -- so it is the lowest free slot
-  spare_there : (today : Day) → find_spare today E ≡ At k
+  spare_there : (today : Day) → find_spare today E ≡ Some k
   unfolding find_spare find_free free_at
   spare_there today = rw (find_hit (free_at E) (slots E) k none (rw (above_is k (omega arith) room)) within)
     where
@@ -232,11 +230,11 @@ module _ (R : List ℕ) (n i : ℕ) (E : List ℕ) (p : Reached R n i E) (l : i 
           let o = record_of (slot_at R c.it) in
           ap (λ s. eqb (state_of s) 0) (below_is x c) ∙ rw (state_slot 1 (day_in o) (for_load o))
 
-      none : find (free_at E) k ≡ Nothing
+      none : find (free_at E) k ≡ None
       none = find_nowhere (free_at E) k (λ x h. taken x (counted_as (entry_at R) i x h))
 
   -- and no slot has its number
-  number_absent : OneEntry R → find_number (number_of (for_load r)) E ≡ Nothing
+  number_absent : OneEntry R → find_number (number_of (for_load r)) E ≡ None
   unfolding OneEntry find_number has_number entry_at
   number_absent one =
       find_nowhere (has_number (number_of (for_load r)) E) (slots E) (λ x h. go x (rw many at h) (dec_lt x k))

@@ -1,8 +1,10 @@
 -- Laws of the walk, of counts, and of a table whose first hit decides.
 -- Assumes nothing.
+use Rattle.std.specs.Option.{is_none, option_or}
+use Rattle.std.specs.Prelude.{Option, Some, None}
 use mathlib.Core.Path.{◌≡◌, refl, sym, ◌∙◌, subst}
 use mathlib.Core.Logic.{◌⊎◌, inl, inr, ◌≢◌}
-use mathlib.Core.Bool.{Bool, true, false, not, ◌&&◌, ◌||◌, cond, true≢false}
+use mathlib.Core.Bool.{Bool, true, false, ◌&&◌, ◌||◌, cond, true≢false}
 use mathlib.Core.List.{List, [], ◌∷◌, ◌++◌}
 use Prim.Native.Nat.{ℕ, zero, suc, ◌+◌, ◌≤◌, ◌<◌}
 use native.Mathlib.Nat.{not-suc-le-zero, lt_irrefl}
@@ -13,9 +15,7 @@ use lib.Dec.{eqb, ltb}
 use borrow.Author.Tests.{ltb-true, eq-eqb, ne_eqb}
 use Rattle.text.specs.Text.{member_of}
 use Rattle.text.proofs.Laws.{and_left, and_right, and_false, or_right}
-use Rattle.rules.specs.declared.Found.{Found}
-use Rattle.rules.specs.declared.Found.TheVariants.{At, Nothing}
-use Rattle.rules.specs.Walks.{or_else, is_nothing, find, walked, sought, count, first}
+use Rattle.rules.specs.Walks.{find, walked, sought, count, first}
 
 -- ---- tests
 
@@ -33,69 +33,61 @@ and_both a b p q = cc
 pub and_rest : (a b : Bool) → a ≡ true → a && b ≡ false → b ≡ false
 and_rest a b p q = cc
 
-pub not_false : (a : Bool) → not a ≡ false → a ≡ true
-not_false true h = refl
-not_false false h = sym h
-
-pub not_true : (a : Bool) → not a ≡ true → a ≡ false
-not_true true h = sym h
-not_true false h = refl
-
 -- ---- the lowest place below n
 
-pub find_some : (p : ℕ → Bool) (n i : ℕ) → find p n ≡ At i → (i < n) × (p i ≡ true)
+pub find_some : (p : ℕ → Bool) (n i : ℕ) → find p n ≡ Some i → (i < n) × (p i ≡ true)
 unfolding find
 find_some p zero i e = let z : ◌≡◌ {A = ℕ} 0 1 = cc in absurd (omega arith)
 find_some p (suc n) i e = go (λ f. find_some p n i f) (find p n) refl (p n) refl e
   where
-    go : (find p n ≡ At i → (i < n) × (p i ≡ true)) → (o : Found) → find p n ≡ o → (b : Bool) → p n ≡ b
-        → or_else o (cond b (At n) Nothing) ≡ At i → (i < suc n) × (p i ≡ true)
-    go ih (At j) f b q e = let h = ih (f ∙ e) in (omega arith, h.1)
-    go ih Nothing f true q e = let z : n ≡ i = cc in (omega arith, rw (← z) q)
-    go ih Nothing f false q e = let z : ◌≡◌ {A = ℕ} 0 1 = cc in absurd (omega arith)
+    go : (find p n ≡ Some i → (i < n) × (p i ≡ true)) → (o : Option ℕ) → find p n ≡ o → (b : Bool) → p n ≡ b
+        → option_or o (cond b (Some n) None) ≡ Some i → (i < suc n) × (p i ≡ true)
+    go ih (Some j) f b q e = let h = ih (f ∙ e) in (omega arith, h.1)
+    go ih None f true q e = let z : n ≡ i = cc in (omega arith, rw (← z) q)
+    go ih None f false q e = let z : ◌≡◌ {A = ℕ} 0 1 = cc in absurd (omega arith)
 
-pub find_none : (p : ℕ → Bool) (n : ℕ) → find p n ≡ Nothing → (i : ℕ) → i < n → p i ≡ false
+pub find_none : (p : ℕ → Bool) (n : ℕ) → find p n ≡ None → (i : ℕ) → i < n → p i ≡ false
 unfolding find
 find_none p zero e i h = absurd (not-suc-le-zero h)
 find_none p (suc n) e i h = go (λ f. find_none p n f i) (find p n) refl (p n) refl e (dec_lt i n)
   where
-    go : (find p n ≡ Nothing → i < n → p i ≡ false) → (o : Found) → find p n ≡ o → (b : Bool) → p n ≡ b
-        → or_else o (cond b (At n) Nothing) ≡ Nothing → Dec (i < n) → p i ≡ false
-    go ih (At j) f b q e d = let z : ◌≡◌ {A = ℕ} 0 1 = cc in absurd (omega arith)
-    go ih Nothing f true q e d = let z : ◌≡◌ {A = ℕ} 0 1 = cc in absurd (omega arith)
-    go ih Nothing f false q e (yes l) = ih f l
-    go ih Nothing f false q e (no l) = let z : i ≡ n = omega arith in rw z q
+    go : (find p n ≡ None → i < n → p i ≡ false) → (o : Option ℕ) → find p n ≡ o → (b : Bool) → p n ≡ b
+        → option_or o (cond b (Some n) None) ≡ None → Dec (i < n) → p i ≡ false
+    go ih (Some j) f b q e d = let z : ◌≡◌ {A = ℕ} 0 1 = cc in absurd (omega arith)
+    go ih None f true q e d = let z : ◌≡◌ {A = ℕ} 0 1 = cc in absurd (omega arith)
+    go ih None f false q e (yes l) = ih f l
+    go ih None f false q e (no l) = let z : i ≡ n = omega arith in rw z q
 
 -- no place below the one that is found passes
-pub find_below : (p : ℕ → Bool) (n i : ℕ) → find p n ≡ At i → (j : ℕ) → j < i → p j ≡ false
+pub find_below : (p : ℕ → Bool) (n i : ℕ) → find p n ≡ Some i → (j : ℕ) → j < i → p j ≡ false
 unfolding find
 find_below p zero i e j h = let z : ◌≡◌ {A = ℕ} 0 1 = cc in absurd (omega arith)
 find_below p (suc n) i e j h = go (λ f. find_below p n i f j h) (find p n) refl (p n) refl e
   where
-    go : (find p n ≡ At i → p j ≡ false) → (o : Found) → find p n ≡ o → (b : Bool) → p n ≡ b
-        → or_else o (cond b (At n) Nothing) ≡ At i → p j ≡ false
-    go ih (At k) f b q e = ih (f ∙ e)
-    go ih Nothing f true q e = let z : n ≡ i = cc in find_none p n f j (omega arith)
-    go ih Nothing f false q e = let z : ◌≡◌ {A = ℕ} 0 1 = cc in absurd (omega arith)
+    go : (find p n ≡ Some i → p j ≡ false) → (o : Option ℕ) → find p n ≡ o → (b : Bool) → p n ≡ b
+        → option_or o (cond b (Some n) None) ≡ Some i → p j ≡ false
+    go ih (Some k) f b q e = ih (f ∙ e)
+    go ih None f true q e = let z : n ≡ i = cc in find_none p n f j (omega arith)
+    go ih None f false q e = let z : ◌≡◌ {A = ℕ} 0 1 = cc in absurd (omega arith)
 
 -- a test that holds nowhere below n
-pub find_nowhere : (p : ℕ → Bool) (n : ℕ) → ((i : ℕ) → i < n → p i ≡ false) → find p n ≡ Nothing
+pub find_nowhere : (p : ℕ → Bool) (n : ℕ) → ((i : ℕ) → i < n → p i ≡ false) → find p n ≡ None
 find_nowhere p n f = go (find p n) refl
   where
-    go : (o : Found) → find p n ≡ o → o ≡ Nothing
-    go (At i) e = let h = find_some p n i e in clash-bool h.1 (f i h.0)
-    go Nothing e = refl
+    go : (o : Option ℕ) → find p n ≡ o → o ≡ None
+    go (Some i) e = let h = find_some p n i e in clash-bool h.1 (f i h.0)
+    go None e = refl
 
-pub is_nothing_lem : (o : Found) → is_nothing o ≡ true → o ≡ Nothing
-is_nothing_lem Nothing e = refl
-is_nothing_lem (At i) e = clash-bool e refl
+pub is_none_lem : (o : Option ℕ) → is_none o ≡ true → o ≡ None
+is_none_lem None e = refl
+is_none_lem (Some i) e = clash-bool e refl
 
-pub find_hit : (p : ℕ → Bool) (n i : ℕ) → find p i ≡ Nothing → p i ≡ true → i < n → find p n ≡ At i
+pub find_hit : (p : ℕ → Bool) (n i : ℕ) → find p i ≡ None → p i ≡ true → i < n → find p n ≡ Some i
 unfolding find
 find_hit p zero i e q h = absurd (not-suc-le-zero h)
 find_hit p (suc n) i e q h = go (λ l. find_hit p n i e q l) (dec_lt i n)
   where
-    go : (i < n → find p n ≡ At i) → Dec (i < n) → or_else (find p n) (cond (p n) (At n) Nothing) ≡ At i
+    go : (i < n → find p n ≡ Some i) → Dec (i < n) → option_or (find p n) (cond (p n) (Some n) None) ≡ Some i
     go ih (yes l) = rw (ih l) refl
     go ih (no l) = let z : n ≡ i = omega arith in rw (z, e, q) refl
 
@@ -103,7 +95,7 @@ find_hit p (suc n) i e q h = go (λ l. find_hit p n i e q l) (dec_lt i n)
 
 pub record Passed (p : ℕ → Bool) (n i : ℕ) : Type 0 where
   pub within : i ≤ n
-  pub nothing : find p i ≡ Nothing
+  pub nothing : find p i ≡ None
 
 module _ (p : ℕ → Bool) (n : ℕ) where
   pub passed_none : Passed p n 0
@@ -114,22 +106,18 @@ module _ (p : ℕ → Bool) (n : ℕ) where
   unfolding find
   passed_more i s h f = record { within = omega arith; nothing = rw (add-one, s.nothing, f) }
 
-  pub passed_hit : (i : ℕ) → Passed p n i → i < n → p i ≡ true → record { found = At i; looked = i + 1 } ≡ sought p n
+  pub passed_hit : (i : ℕ) → Passed p n i → i < n → p i ≡ true → record { found = Some i; looked = i + 1 } ≡ sought p n
   unfolding walked
   passed_hit i s h t = rw (find_hit p n i s.nothing t h)
-
-  pub passed_all : (i : ℕ) → Passed p n i → n ≤ i → record { found = Nothing; looked = i } ≡ sought p n
-  unfolding walked
-  passed_all i s h = let e : i ≡ n = omega (arith, s.within) in rw (← e, s.nothing)
 
 -- the walk looks at no more than there is
 pub walked_le : (p : ℕ → Bool) (n : ℕ) → walked p n ≤ n
 unfolding walked
 walked_le p n = go (find p n) refl
   where
-    go : (o : Found) → find p n ≡ o → walked p n ≤ n
-    go (At i) e = let h = find_some p n i e in rw e (omega arith)
-    go Nothing e = rw e (omega arith)
+    go : (o : Option ℕ) → find p n ≡ o → walked p n ≤ n
+    go (Some i) e = let h = find_some p n i e in rw e (omega arith)
+    go None e = rw e (omega arith)
 
 -- two tests that agree below n find the same place
 pub find_same_lem : (p q : ℕ → Bool) (n : ℕ) → ((j : ℕ) → j < n → q j ≡ p j) → find q n ≡ find p n

@@ -4,14 +4,12 @@
 -- load_answered, full_answered, lookup_answered; and one outcome for each of the five promises: one_data, one_guide, one_check,
 -- one_load, one_lookup. What a check of the evening is worth in the morning is proved in `proofs/Overnight`.
 -- Assumes nothing.
-use Rattle.std.specs.Prelude.{ℕ, ◌+◌, ◌*◌, ◌/◌, ◌%◌, ◌≤◌, ◌<◌, ◌≡◌, ◌≢◌, List, [], ◌∷◌, true, false, length, drop, get_or}
+use Rattle.std.specs.Prelude.{ℕ, ◌+◌, ◌*◌, ◌/◌, ◌%◌, ◌≤◌, ◌<◌, ◌≡◌, ◌≢◌, List, [], ◌∷◌, true, false, length, drop, get_or, Some, None}
 use Rattle.text.specs.Text.{member_of}
 use Rattle.calendar.specs.declared.Day.{Day}
 use Rattle.layout.specs.declared.counter.Cycle.{Cycle}
 use Rattle.layout.specs.declared.counter.Count.{Count}
 use Rattle.layout.specs.declared.frame.Header.{Header}
-use Rattle.layout.specs.declared.frame.Opened.TheVariants.{Header as a_header}
-use Rattle.layout.specs.declared.frame.Closed.TheVariants.{Trailer as a_trailer}
 use Rattle.layout.specs.Tables.{header_table, trailer_table}
 use Rattle.layout.specs.Counters.{given_cycle, is_next_of, is_count}
 use Rattle.layout.specs.Fields.{number_of}
@@ -20,7 +18,6 @@ use Rattle.versions.specs.declared.Version.{Version}
 use Rattle.versions.specs.declared.Version.TheVariants.{One, Two}
 use Rattle.rules.specs.declared.Code.{Code}
 use Rattle.rules.specs.declared.Code.TheVariants.{Insert}
-use Rattle.rules.specs.declared.Found.TheVariants.{Nothing, At}
 use Rattle.rules.specs.declared.Kind.{Kind}
 use Rattle.rules.specs.declared.Kind.TheVariants.{Data, Guide}
 use Rattle.rules.specs.declared.Taken.{Taken}
@@ -77,10 +74,10 @@ pub record NoneHits (k : Kind) (s : Stores) (f : List ℕ) (room : ℕ) (last : 
   pub guide : guide_sound s.guide ≡ true
   pub long : good_file k f ≡ true
   pub fits : lines_in k f ≤ room
-  pub head : header_of (header_table (shape_of k).frame) (header_line k f) ≡ a_header h
+  pub head : header_of (header_table (shape_of k).frame) (header_line k f) ≡ Some h
   pub next : is_next_of last h.cycle ≡ true
   pub count : Count
-  pub tail : trailer_of (trailer_table (shape_of k).frame) (header_line k f) (trailer_line k f) ≡ a_trailer count
+  pub tail : trailer_of (trailer_table (shape_of k).frame) (header_line k f) (trailer_line k f) ≡ Some count
   pub counted : is_count count (lines_in k f) ≡ true
   pub lines : (i : ℕ) → i < lines_in k f → line_fault k (line_at k f i) ≡ 0
 
@@ -162,7 +159,7 @@ LinesAnswer = (k : Kind) (h : Header) (r : List ℕ) (s : Stores) → LineAnswer
 -- 20 | "I, absent: no free slot, and no resting slot at least 90 days before the header's date"
 pub record Full (R : List ℕ) (h : Header) (r : List ℕ) (c : Code) : Type 0 where
   pub insert : c ≡ Insert
-  pub absent : find_number (number_of r) R ≡ Nothing
+  pub absent : find_number (number_of r) R ≡ None
   pub free : (i : ℕ) → i < slots R → is_free (state_of (slot_at R i)) ≡ false
   pub reusable : (i : ℕ) → i < slots R → is_reusable h.day (slot_at R i) ≡ false
 
@@ -182,7 +179,7 @@ pub record LoadAnswered (v : Version) (R out : List ℕ) (l : Load) : Type 0 whe
   pub refused : l.result.refusal ≢ 0 → (l.result.bytes ≡ 0) × ((l.result.entries ≡ 0) × (l.output ≡ out))
   pub sized : l.result.refusal ≡ 0 → l.result.bytes ≡ edges (Data v) + l.result.entries * (shape_of (Data v)).line
   pub rest : drop l.result.bytes l.output ≡ drop l.result.bytes out
-  pub wide : l.result.refusal ≡ 27 → find (wide_at v R) (slots R) ≡ At l.result.slot
+  pub wide : l.result.refusal ≡ 27 → find (wide_at v R) (slots R) ≡ Some l.result.slot
   pub none : l.result.refusal ≢ 27 → l.result.slot ≡ 0
 
 unfoldable pub LoadsAnswer : Type 0

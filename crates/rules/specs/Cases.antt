@@ -1,9 +1,9 @@
 -- P1 to P10 of the description, P1, P2 and P4 as 2026-02 has them, and its first and last day, as a single table: each is computed.
 -- Assumes nothing.
 use Rattle.std.specs.Prelude.{ℕ, ◌≡◌, refl, List, [], ◌∷◌, ◌++◌, Bool, true, false, ◌&&◌, not, eqb}
-use Rattle.text.specs.Text.{runs_of, spelled, spaces, digits, width, among_spaces, left_digits}
+use Rattle.text.specs.Text.{runs_of, spelled, spaces, digits, width, among_spaces, left_digits, on_some}
 use Rattle.calendar.specs.declared.Day.{Day}
-use Rattle.calendar.specs.Calendar.{day_of, on_day}
+use Rattle.calendar.specs.Calendar.{day_of}
 use Rattle.layout.specs.Counters.{given_cycle, is_next_of}
 use Rattle.layout.specs.Fields.{low_of, high_of, parity_of, allows, row_street_of, row_place_of}
 use Rattle.rules.specs.Slots.{state_of, slot_day, slot_of}
@@ -15,10 +15,10 @@ abbrev pub mmddyy : ℕ → ℕ → ℕ → List ℕ
 mmddyy m d y = digits 2 m ++ (digits 2 d ++ digits 2 y)
 
 abbrev pub is_day_number : ℕ → List ℕ → Bool
-is_day_number n f = on_day (day_of f) false (λ d. eqb d.0 n)
+is_day_number n f = on_some (day_of f) false (λ d. eqb d.0 n)
 
 abbrev pub is_no_date : List ℕ → Bool
-is_no_date f = on_day (day_of f) true (λ d. false)
+is_no_date f = on_some (day_of f) true (λ d. false)
 
 -- a row with this parity and these ends, of one street in one place
 abbrev pub row_with : ℕ → ℕ → ℕ → List ℕ

@@ -3,14 +3,12 @@
 -- for its Function and Source." 2026-01: in either version. Proved in `proofs/RoundTrip`: round_trip; and run_fit, that after any run from
 -- empty stores the register and its own guide are fit for it.
 -- Assumes nothing.
-use Rattle.std.specs.Prelude.{ℕ, ◌*◌, ◌≤◌, ◌<◌, ◌≡◌, ◌≢◌, List, ◌++◌, true, length, take, drop, get_or, replicate}
-use Rattle.calendar.specs.declared.Date.TheVariants.{Day as a_day}
+use Rattle.std.specs.Prelude.{ℕ, ◌*◌, ◌≤◌, ◌<◌, ◌≡◌, ◌≢◌, List, ◌++◌, true, length, take, drop, get_or, replicate, Some}
 use Rattle.layout.specs.Tables.{data_record, start_of, function, source}
 use Rattle.layout.specs.Counters.{given_cycle, is_next_of}
 use Rattle.layout.specs.Fields.{number_of, esn_of, row_esn_of, date_of}
 use Rattle.versions.specs.declared.Version.{Version}
 use Rattle.rules.specs.declared.Kind.TheVariants.{Data}
-use Rattle.rules.specs.declared.Found.TheVariants.{At}
 use Rattle.rules.specs.Walks.{count}
 use Rattle.rules.specs.Slots.{slot_size, slot_at, state_of, slot_day, record_of, is_held, row_slot_at, row_of, guide_sound}
 use Rattle.rules.specs.Records.{find_row}
@@ -25,7 +23,7 @@ OneEntry R =
 
 -- the lowest row over r is in guide slot k, and has the ESN of r
 pub record Zoned (G r : List ℕ) (k : ℕ) : Type 0 where
-  pub lowest : find_row r G ≡ At k
+  pub lowest : find_row r G ≡ Some k
   pub zone : esn_of r ≡ row_esn_of (row_of (row_slot_at G k))
 
 -- "a guide whose lowest row over each entry has its ESN"
@@ -60,7 +58,7 @@ trip_of v R G date company c out answers last n =
 -- the entry s is back in the slot b: held, under the date in its record, every byte of the record but for its Function and Source
 pub record Back (s b : List ℕ) : Type 0 where
   pub state : state_of b ≡ 1
-  pub dated : date_of (record_of s) ≡ a_day (slot_day b)
+  pub dated : date_of (record_of s) ≡ Some (slot_day b)
   pub day : is_held (state_of s) ≡ true → slot_day b ≡ slot_day s
   pub coded : get_or (record_of b) (start_of data_record function) 0 ≡ 73
   pub marked : get_or (record_of b) (start_of data_record source) 0 ≡ 67

@@ -3,15 +3,14 @@
 -- what is proved of it in `proofs/ConvertLaws`, for every register: convert_answered, convert_keeps, held_once, order_stays,
 -- distance_stays, one_convert.
 -- Assumes nothing.
-use Rattle.std.specs.Prelude.{ℕ, zero, suc, ◌+◌, ◌<◌, ◌≡◌, ◌≢◌, List, [], ◌∷◌, Bool, true, false, ◌&&◌, cond, length}
-use Rattle.text.specs.Text.{part, member_of}
+use Rattle.std.specs.Prelude.{ℕ, zero, suc, ◌+◌, ◌<◌, ◌≡◌, ◌≢◌, List, [], ◌∷◌, Bool, true, false, ◌&&◌, cond, length, Some}
+use Rattle.text.specs.Text.{part, member_of, on_some}
 use Rattle.calendar.specs.declared.Day.{Day}
-use Rattle.calendar.specs.declared.Date.TheVariants.{Day as a_day}
 use Rattle.calendar.specs.declared.Reading.TheVariants.{Former}
-use Rattle.calendar.specs.Calendar.{on_day, is_before, is_past}
+use Rattle.calendar.specs.Calendar.{is_before, is_past}
 use Rattle.calendar.specs.Former.{anew}
 use Rattle.rules.specs.declared.Converted.{Converted}
-use Rattle.rules.specs.Walks.{find, on_found}
+use Rattle.rules.specs.Walks.{find}
 use Rattle.rules.specs.Slots.{slots, slot_at, with_slot, state_of, slot_day, record_of, is_held, is_used, restated, register_sound, register_sound_by}
 use Rattle.rules.specs.Demands.{StoresKept}
 
@@ -19,14 +18,14 @@ use Rattle.rules.specs.Demands.{StoresKept}
 
 -- "a stored day above 25567 has no reading now": that of a used slot
 abbrev pub is_late : List ℕ → Bool
-is_late s = is_used (state_of s) && on_day (anew (slot_day s)) true (λ day. false)
+is_late s = is_used (state_of s) && on_some (anew (slot_day s)) true (λ day. false)
 
 unfoldable pub late_at : List ℕ → ℕ → Bool
 late_at R k = is_late (slot_at R k)
 
 -- "by adding 10957 to each used slot's day"
 unfoldable pub converted_slot : List ℕ → List ℕ
-converted_slot s = cond (is_used (state_of s)) (on_day (anew (slot_day s)) s (λ day. restated (state_of s) day s)) s
+converted_slot s = cond (is_used (state_of s)) (on_some (anew (slot_day s)) s (λ day. restated (state_of s) day s)) s
 
 -- the register with its first i slots converted
 unfoldable pub converted_to : List ℕ → ℕ → List ℕ
@@ -50,7 +49,7 @@ done_conversion R = record { result = record { refusal = 0; slot = 0 }; register
 unfoldable pub conversion : List ℕ → Conversion
 conversion R =
     cond (register_sound_by Former R)
-    (on_found (find (late_at R) (slots R)) (done_conversion R) (λ k. refused_conversion 28 k R))
+    (on_some (find (late_at R) (slots R)) (done_conversion R) (λ k. refused_conversion 28 k R))
     (refused_conversion 1 0 R)
 
 -- what converting a register promises: the result, and the register at exit
@@ -116,11 +115,11 @@ HeldOnce =
 
 unfoldable pub OrderStays : Type 0
 OrderStays =
-    (d e x y : Day) → anew d ≡ a_day x → anew e ≡ a_day y → is_before x y ≡ is_before d e
+    (d e x y : Day) → anew d ≡ Some x → anew e ≡ Some y → is_before x y ≡ is_before d e
 
 unfoldable pub DistanceStays : Type 0
 DistanceStays =
-    (d e x y : Day) (n : ℕ) → anew d ≡ a_day x → anew e ≡ a_day y → is_past x n y ≡ is_past d n e
+    (d e x y : Day) (n : ℕ) → anew d ≡ Some x → anew e ≡ Some y → is_past x n y ≡ is_past d n e
 
 -- ---- "Show that the promise admits one outcome"
 

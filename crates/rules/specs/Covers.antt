@@ -1,15 +1,14 @@
 -- 01, "A row covers an address", and when two rows clash or are the same.
 -- Assumes nothing.
-use Rattle.std.specs.Prelude.{ℕ, ◌+◌, min, max, ◌≡◌, List, Bool, true, false, ◌&&◌, ◌||◌, leb, eqb}
-use Rattle.text.specs.declared.Spelled.{Spelled}
-use Rattle.text.specs.Text.{same_bytes, on_number}
+use Rattle.std.specs.Prelude.{ℕ, ◌+◌, min, max, ◌≡◌, List, Bool, true, false, ◌&&◌, ◌||◌, leb, eqb, Option}
+use Rattle.text.specs.Text.{same_bytes, on_some}
 use Rattle.layout.specs.Fields.{house_of, street_of, place_of, row_street_of, row_place_of, low_of, high_of, parity_of, allows, row_esn_of, same_esn}
 
 -- "the house number lies in Low to High, and parity allows it"
 unfoldable pub hits : List ℕ → ℕ → Bool
 hits g n =
-    on_number (low_of g) false (λ low.
-    on_number (high_of g) false (λ high.
+    on_some (low_of g) false (λ low.
+    on_some (high_of g) false (λ high.
     leb low n && (leb n high && allows (parity_of g) n)))
 
 -- the row stands over house number n of a street in a place
@@ -22,7 +21,7 @@ unfoldable pub covers : List ℕ → List ℕ → Bool
 covers g r =
     same_bytes (row_street_of g) (street_of r)
     && (same_bytes (row_place_of g) (place_of r)
-    && on_number (house_of r) false (λ n. hits g n))
+    && on_some (house_of r) false (λ n. hits g n))
 
 -- two rows of the same street fields
 unfoldable pub same_street : List ℕ → List ℕ → Bool
@@ -38,10 +37,10 @@ meet_from p q high n = (leb n high && both_allow p q n) || (leb (n + 1) high && 
 -- "some house number is covered by it and by a present row of the same street fields": one that both ranges have
 unfoldable pub meets : List ℕ → List ℕ → Bool
 meets g h =
-    on_number (low_of g) false (λ a.
-    on_number (high_of g) false (λ b.
-    on_number (low_of h) false (λ c.
-    on_number (high_of h) false (λ d.
+    on_some (low_of g) false (λ a.
+    on_some (high_of g) false (λ b.
+    on_some (low_of h) false (λ c.
+    on_some (high_of h) false (λ d.
     meet_from (parity_of g) (parity_of h) (min b d) (max a c)))))
 
 unfoldable pub clash : List ℕ → List ℕ → Bool
@@ -60,8 +59,8 @@ unfoldable pub ClashExactly : Type 0
 ClashExactly = (g h : List ℕ) → (clash g h ≡ true → Shared g h) × (Shared g h → clash g h ≡ true)
 
 -- two fields of digits, "as numbers"
-abbrev pub equal_numbers : Spelled → Spelled → Bool
-equal_numbers a b = on_number a false (λ m. on_number b false (λ n. eqb m n))
+abbrev pub equal_numbers : Option ℕ → Option ℕ → Bool
+equal_numbers a b = on_some a false (λ m. on_some b false (λ n. eqb m n))
 
 -- "the same street fields, Low and High as numbers, parity and ESN bytes"
 unfoldable pub same_row : List ℕ → List ℕ → Bool

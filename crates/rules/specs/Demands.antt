@@ -6,18 +6,16 @@
 -- run_shows : AllShown (run files (start n m)), for 1 to 4096 slots. A file of a run is one that was applied; a check changes nothing, so
 -- it is none. The crate `witnesses` computes one run, and that it meets what these theorems ask for.
 -- Assumes nothing.
-use Rattle.std.specs.Prelude.{ℕ, ◌+◌, ◌*◌, ◌<◌, ◌≡◌, ◌≢◌, List, [], ◌∷◌, ◌++◌, Bool, true, false, ◌&&◌, cond, length, replicate}
-use Rattle.std.proofs.Math.Option.{Option, none, some}
-use Rattle.text.specs.Text.{same_bytes, member_of}
+use Rattle.calendar.specs.declared.Day.{Day}
+use Rattle.std.specs.Prelude.{ℕ, ◌+◌, ◌*◌, ◌<◌, ◌≡◌, ◌≢◌, List, [], ◌∷◌, ◌++◌, Bool, true, false, ◌&&◌, cond, length, replicate, Option, Some, None}
+use Rattle.text.specs.Text.{same_bytes, member_of, on_some}
 use Rattle.layout.specs.declared.frame.Header.{Header}
 use Rattle.layout.specs.Fields.{number_of, company_of, esn_of, row_esn_of}
 use Rattle.rules.specs.declared.Kind.{Kind}
 use Rattle.rules.specs.declared.Code.{Code}
 use Rattle.rules.specs.declared.Code.TheVariants.{Insert, Change, Delete, Unlock, Migrate}
-use Rattle.rules.specs.declared.Filed.{Filed}
-use Rattle.rules.specs.declared.Filed.TheVariants.{Record, NoRecord}
 use Rattle.rules.specs.declared.Seen.{Seen}
-use Rattle.rules.specs.Walks.{count, on_found}
+use Rattle.rules.specs.Walks.{count}
 use Rattle.rules.specs.Slots.{slot_size, slots, slot_at, state_of, record_of, is_held, is_open, is_used, is_live, register_sound}
 use Rattle.rules.specs.Slots.{row_slot_size, row_slots, row_slot_at, is_present, row_of, guide_sound}
 use Rattle.rules.specs.Covers.{over, covers}
@@ -121,9 +119,9 @@ is_unlock Unlock = true
 is_unlock Migrate = false
 
 -- a code is there, and passes the test
-abbrev pub is_coded : (Code → Bool) → Filed → Bool
-is_coded p (Record c d) = p c
-is_coded p NoRecord = false
+abbrev pub is_coded : (Code → Bool) → Option (Code × Day) → Bool
+is_coded p (Some (c, d)) = p c
+is_coded p None = false
 
 -- the record has a code that passes the test
 unfoldable pub code_is : (Code → Bool) → List ℕ → Bool
@@ -131,8 +129,8 @@ code_is p r = is_coded p (filed_of r)
 
 -- the last accepted record that passes a test
 unfoldable pub newest : (List ℕ → Bool) → List Item → Option (List ℕ)
-newest p [] = none
-newest p (entry r ∷ h) = cond (p r) (some r) (newest p h)
+newest p [] = None
+newest p (entry r ∷ h) = cond (p r) (Some r) (newest p h)
 newest p (row g ∷ h) = newest p h
 
 -- the last accepted record of number n
@@ -145,8 +143,8 @@ last_stored n h = newest (λ r. same_bytes (number_of r) n && code_is stores r) 
 
 -- a record is there, and its code passes the test
 abbrev pub is_there : (Code → Bool) → Option (List ℕ) → Bool
-is_there p none = false
-is_there p (some r) = code_is p r
+is_there p None = false
+is_there p (Some r) = code_is p r
 
 -- the last accepted record of number n is there, and its code passes the test
 unfoldable pub last_is : (Code → Bool) → List ℕ → List Item → Bool
@@ -163,7 +161,7 @@ tally p (row g ∷ h) = tally p h
 -- r "is the last accepted insert, change or migrate of its number, a blank ESN filled in": filled from the row in guide slot k
 pub record IsLast (G : List ℕ) (h : List Item) (r : List ℕ) (k : ℕ) : Type 0 where
   pub given : List ℕ
-  pub last : last_stored (number_of r) h ≡ some given
+  pub last : last_stored (number_of r) h ≡ Some given
   pub same : r ≡ shown given (row_of (row_slot_at G k))
 
 -- each held or open entry is so, under the row that it lies under
@@ -188,7 +186,7 @@ Exactly o p q =
 -- the last accepted record of number n has a code that passes the test, and is the company's
 pub record LastWas (p : Code → Bool) (n company : List ℕ) (h : List Item) : Type 0 where
   pub it : List ℕ
-  pub last : last_of n h ≡ some it
+  pub last : last_of n h ≡ Some it
   pub coded : code_is p it ≡ true
   pub by : company_of it ≡ company
 
@@ -202,7 +200,7 @@ pub data Passed (h : List Item) (q r : List ℕ) : Type 0 where
 unfoldable pub OnlyPassed : List Item → Type 0
 OnlyPassed all =
     (later : List Item) (r : List ℕ) (h : List Item) (q : List ℕ) → all ≡ later ++ (entry r ∷ h) → code_is stores r ≡ true
-    → last_stored (number_of r) h ≡ some q → company_of q ≢ company_of r → Passed h q r
+    → last_stored (number_of r) h ≡ Some q → company_of q ≢ company_of r → Passed h q r
 
 -- "Held plus open equals accepted inserts less accepted deletes, from empty"
 unfoldable pub Counted : List ℕ → List Item → Type 0
@@ -260,7 +258,7 @@ AllShown o = (n : List ℕ) → is_number n ≡ true → Shows o n (seen o.store
 -- the slot of number n is held by the company
 unfoldable pub held_by : List ℕ → List ℕ → List ℕ → Bool
 held_by R n company =
-    on_found (find_number n R) false (λ i.
+    on_some (find_number n R) false (λ i.
     is_held (state_of (slot_at R i)) && same_bytes (company_of (record_of (slot_at R i))) company)
 
 -- a record is turned away: answered 11, 13, 15 or 16, and the register is as it was

@@ -1,4 +1,6 @@
+pub mod Answering
 pub mod Walks
+pub mod Refusing
 pub mod Slots
 pub mod Covers
 pub mod Records

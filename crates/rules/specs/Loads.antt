@@ -1,18 +1,18 @@
 -- 01, "Load file": when it is refused, its bytes, and what is returned; 2026-01, in either version.
 -- Assumes nothing.
-use Rattle.std.specs.Prelude.{ℕ, zero, suc, ◌+◌, ◌*◌, ◌≡◌, List, [], ◌++◌, Bool, ◌&&◌, not, cond, leb, eqb, length, drop}
+use Rattle.layout.specs.declared.frame.Header.{Header}
+use Rattle.text.specs.Text.{on_some}
+use Rattle.std.specs.Prelude.{ℕ, zero, suc, ◌+◌, ◌*◌, ◌≡◌, List, [], ◌++◌, Bool, ◌&&◌, not, cond, leb, eqb, length, drop, Option, None}
 use Rattle.calendar.specs.declared.Day.{Day}
 use Rattle.calendar.specs.Calendar.{is_before}
-use Rattle.layout.specs.declared.frame.Opened.{Opened}
-use Rattle.layout.specs.declared.frame.Opened.TheVariants.{Wrong}
 use Rattle.layout.specs.Tables.{header, header_table, size_of, frame_date, name}
 use Rattle.layout.specs.Fields.{for_load}
-use Rattle.layout.specs.Frames.{header_of, on_header, header_with, trailer_with}
+use Rattle.layout.specs.Frames.{header_of, header_with, trailer_with}
 use Rattle.versions.specs.declared.Version.{Version}
 use Rattle.versions.specs.Versions.{narrow_of, fits_in}
 use Rattle.rules.specs.declared.Kind.TheVariants.{Data}
 use Rattle.rules.specs.declared.Loaded.{Loaded}
-use Rattle.rules.specs.Walks.{find, count, on_found}
+use Rattle.rules.specs.Walks.{find, count}
 use Rattle.rules.specs.Slots.{slots, slot_at, state_of, slot_day, record_of, is_live, register_sound}
 use Rattle.rules.specs.Takes.{shape_of, edges}
 
@@ -50,11 +50,11 @@ load_size v R = edges (Data v) + entries_in R * (shape_of (Data v)).line
 -- ---- "Refused in this order"
 
 -- the header to be written, if "date, name or cycle" keep "the header's rules (lengths 6 and 50 included)"
-unfoldable pub load_header : Version → List ℕ → List ℕ → ℕ → Opened
+unfoldable pub load_header : Version → List ℕ → List ℕ → ℕ → Option Header
 load_header v date company c =
     cond (eqb (length date) (size_of header frame_date) && eqb (length company) (size_of header name))
     (header_of (header_table (shape_of (Data v)).frame) (header_for v date company c))
-    Wrong
+    None
 
 -- "the date is before an entry's day"
 abbrev pub is_later_entry : Day → List ℕ → Bool
@@ -73,14 +73,14 @@ wide_at v R i = is_wide_entry v (slot_at R i)
 -- "27 after 26 and before 25"
 -- 25 | "the output is too short"
 unfoldable pub narrow_refusal : Version → List ℕ → ℕ → ℕ
-narrow_refusal v R room = on_found (find (wide_at v R) (slots R)) (cond (leb (load_size v R) room) 0 25) (λ i. 27)
+narrow_refusal v R room = on_some (find (wide_at v R) (slots R)) (cond (leb (load_size v R) room) 0 25) (λ i. 27)
 
 -- 26 | "date, name or cycle breaks the header's rules (lengths 6 and 50 included) or the date is before an entry's day"
 -- and then 27 and 25
 unfoldable pub header_refusal : Version → List ℕ → List ℕ → List ℕ → ℕ → ℕ → ℕ
 header_refusal v R date company c room =
-    on_header (load_header v date company c) 26 (λ h.
-    on_found (find (later_at h.day R) (slots R)) (narrow_refusal v R room) (λ i. 26))
+    on_some (load_header v date company c) 26 (λ h.
+    on_some (find (later_at h.day R) (slots R)) (narrow_refusal v R room) (λ i. 26))
 
 -- 1 | "register length or a slot unsound"
 -- and then the others
@@ -89,7 +89,7 @@ load_refusal v R date company c room = cond (register_sound R) (header_refusal v
 
 -- "with the lowest such entry's slot"; 0 but in 27
 unfoldable pub wide_slot : Version → List ℕ → ℕ → ℕ
-wide_slot v R refusal = cond (eqb refusal 27) (on_found (find (wide_at v R) (slots R)) 0 (λ i. i)) 0
+wide_slot v R refusal = cond (eqb refusal 27) (on_some (find (wide_at v R) (slots R)) 0 (λ i. i)) 0
 
 -- ---- what is returned, and the output afterwards
 

@@ -2,9 +2,9 @@
 -- Assumes nothing.
 use Rattle.std.specs.Prelude.{ℕ, ◌+◌, ◌*◌, ◌≡◌, List, Bool, ◌&&◌, cond, eqb, length}
 use Rattle.text.specs.declared.Class.TheVariants.{Digit}
-use Rattle.text.specs.Text.{all_in}
+use Rattle.text.specs.Text.{all_in, on_some}
 use Rattle.rules.specs.declared.Seen.{Seen}
-use Rattle.rules.specs.Walks.{walked, on_found}
+use Rattle.rules.specs.Walks.{walked}
 use Rattle.rules.specs.Slots.{slot_size, slots, good_length}
 use Rattle.rules.specs.Records.{has_number, find_number, state_in}
 
@@ -23,7 +23,7 @@ seen_in R n =
     record {
       refusal = 0;
       state = state_in R (find_number n R);
-      slot = on_found (find_number n R) 0 (λ i. i);
+      slot = on_some (find_number n R) 0 (λ i. i);
       looked = walked (has_number n R) (slots R);
     }
 

@@ -1,15 +1,16 @@
 -- 01, "Register slot" and "Guide slot": the stores, their slots, and when a slot is sound.
 -- Assumes nothing.
+use Rattle.std.specs.Option.{is_none}
 use Rattle.std.specs.Prelude.{ℕ, ◌*◌, ◌/◌, ◌%◌, List, [], ◌∷◌, ◌++◌, Bool, false, ◌&&◌, ◌||◌, not, cond, leb, eqb, length, take, drop, get_or, replicate}
-use Rattle.text.specs.Text.{part, all_equal, put_at}
+use Rattle.text.specs.Text.{part, all_equal, put_at, on_some}
 use Rattle.calendar.specs.declared.Day.{Day}
 use Rattle.calendar.specs.declared.Reading.{Reading}
 use Rattle.calendar.specs.declared.Reading.TheVariants.{Present}
-use Rattle.calendar.specs.Calendar.{stored_day, day_bytes, is_before, on_calendar, on_day}
+use Rattle.calendar.specs.Calendar.{stored_day, day_bytes, is_before, on_calendar}
 use Rattle.layout.specs.Tables.{data_record, guide_row}
 use Rattle.layout.specs.Fields.{function_of, has_esn, date_by, row_function_of}
 use Rattle.layout.specs.Rules.{record_fault, row_fault}
-use Rattle.rules.specs.Walks.{find, is_nothing}
+use Rattle.rules.specs.Walks.{find}
 
 -- ---- a store of places of w bytes, one after the other
 
@@ -111,7 +112,7 @@ used_sound_by reading s =
     is_used (state_of s)
     && (is_zero (part 5 3 s)
     && (fits_slot (record_of s)
-    && on_day (date_by reading (record_of s)) false (λ date. day_fits (state_of s) (slot_day s) date)))
+    && on_some (date_by reading (record_of s)) false (λ date. day_fits (state_of s) (slot_day s) date)))
 
 -- and as dates are read now
 unfoldable pub used_sound : List ℕ → Bool
@@ -128,7 +129,7 @@ unfoldable pub unsound_slot : List ℕ → ℕ → Bool
 unsound_slot R k = is_unsound (slot_at R k)
 
 unfoldable pub register_sound : List ℕ → Bool
-register_sound R = good_length slot_size R && is_nothing (find (unsound_slot R) (slots R))
+register_sound R = good_length slot_size R && is_none (find (unsound_slot R) (slots R))
 
 -- 2026-02, refusal "1 by the old reading": the same, by either reading
 abbrev pub slot_sound_by : Reading → List ℕ → Bool
@@ -141,7 +142,7 @@ unfoldable pub unsound_by : Reading → List ℕ → ℕ → Bool
 unsound_by reading R k = is_unsound_by reading (slot_at R k)
 
 unfoldable pub register_sound_by : Reading → List ℕ → Bool
-register_sound_by reading R = good_length slot_size R && is_nothing (find (unsound_by reading R) (slots R))
+register_sound_by reading R = good_length slot_size R && is_none (find (unsound_by reading R) (slots R))
 
 -- ---- "Guide slot, 208 bytes"
 
@@ -202,4 +203,4 @@ unfoldable pub unsound_row_slot : List ℕ → ℕ → Bool
 unsound_row_slot G k = is_row_unsound (row_slot_at G k)
 
 unfoldable pub guide_sound : List ℕ → Bool
-guide_sound G = good_length row_slot_size G && is_nothing (find (unsound_row_slot G) (row_slots G))
+guide_sound G = good_length row_slot_size G && is_none (find (unsound_row_slot G) (row_slots G))

@@ -1,24 +1,22 @@
 -- 01, "Taking a file": the refusals 1 to 9, what is applied, and what is returned, for each kind of file: guide files, and data files of
 -- either version (2026-01).
 -- Assumes nothing.
-use Rattle.std.specs.Prelude.{ℕ, zero, suc, ◌+◌, ◌*◌, ◌-◌, ◌/◌, ◌%◌, ◌≡◌, List, [], ◌∷◌, ◌++◌, Bool, ◌&&◌, not, cond, leb, eqb, length, drop}
-use Rattle.text.specs.Text.{part}
+use Rattle.std.specs.Prelude.{ℕ, zero, suc, ◌+◌, ◌*◌, ◌-◌, ◌/◌, ◌%◌, ◌≡◌, List, [], ◌∷◌, ◌++◌, Bool, ◌&&◌, not, cond, leb, eqb, length, drop, Result, Ok, Err}
+use Rattle.text.specs.Text.{part, on_some}
 use Rattle.layout.specs.declared.frame.Header.{Header}
 use Rattle.layout.specs.declared.counter.Cycle.{Cycle}
 use Rattle.layout.specs.Tables.{data_record, narrow_record, guide_row, header_table, trailer_table}
 use Rattle.layout.specs.Counters.{given_cycle, is_next_of, is_count}
 use Rattle.layout.specs.Rules.{record_fault, row_fault}
-use Rattle.layout.specs.Frames.{header_of, trailer_of, on_header, on_trailer}
+use Rattle.layout.specs.Frames.{header_of, trailer_of}
 use Rattle.versions.specs.declared.Version.{Version}
 use Rattle.versions.specs.declared.Version.TheVariants.{One, Two}
 use Rattle.versions.specs.Versions.{widened}
 use Rattle.rules.specs.declared.Kind.{Kind}
 use Rattle.rules.specs.declared.Kind.TheVariants.{Data, Guide}
 use Rattle.rules.specs.declared.Refusal.{Refusal}
-use Rattle.rules.specs.declared.Checked.{Checked}
-use Rattle.rules.specs.declared.Checked.TheVariants.{Good, Refused}
 use Rattle.rules.specs.declared.Taken.{Taken}
-use Rattle.rules.specs.Walks.{find, on_found}
+use Rattle.rules.specs.Walks.{find}
 use Rattle.rules.specs.Slots.{register_sound, guide_sound}
 use Rattle.rules.specs.Records.{applied}
 use Rattle.rules.specs.Rows.{row_applied}
@@ -72,32 +70,32 @@ pub record Stores : Type 0 where
   pub guide : List ℕ
 
 -- "number, record place and position (both 0 except in 9 ..)"
-abbrev pub refuse : ℕ → Checked
-refuse n = Refused (record { number = n; place = 0; position = 0 })
+abbrev pub refuse : ℕ → Result Header Refusal
+refuse n = Err (record { number = n; place = 0; position = 0 })
 
 unfoldable pub bad_line : Kind → List ℕ → ℕ → Bool
 bad_line k f i = not (eqb (line_fault k (line_at k f i)) 0)
 
 -- 9 | "a record breaks a field rule": "first bad record from 1, first byte of its first bad field"
-unfoldable pub lines_checked : Kind → List ℕ → Header → Checked
+unfoldable pub lines_checked : Kind → List ℕ → Header → Result Header Refusal
 lines_checked k f h =
-    on_found (find (bad_line k f) (lines_in k f)) (Good h) (λ i.
-    Refused (record { number = 9; place = i + 1; position = line_fault k (line_at k f i) }))
+    on_some (find (bad_line k f) (lines_in k f)) (Ok h) (λ i.
+    Err (record { number = 9; place = i + 1; position = line_fault k (line_at k f i) }))
 
 -- 7 | "trailer wrong, or its date or name differs from the header's"
 -- 8 | "trailer count isn't n"
 -- and then the lines
-unfoldable pub trailer_checked : Kind → List ℕ → Header → Checked
+unfoldable pub trailer_checked : Kind → List ℕ → Header → Result Header Refusal
 trailer_checked k f h =
-    on_trailer (trailer_of (trailer_table (shape_of k).frame) (header_line k f) (trailer_line k f)) (refuse 7) (λ c.
+    on_some (trailer_of (trailer_table (shape_of k).frame) (header_line k f) (trailer_line k f)) (refuse 7) (λ c.
     cond (is_count c (lines_in k f)) (lines_checked k f h) (refuse 8))
 
 -- 5 | "header wrong"
 -- 6 | "cycle isn't the next: last + 1, after 999999 is 1; last is 0 if none yet; last above 999999"
 -- and then the trailer
-unfoldable pub frame_checked : Kind → List ℕ → Cycle → Checked
+unfoldable pub frame_checked : Kind → List ℕ → Cycle → Result Header Refusal
 frame_checked k f last =
-    on_header (header_of (header_table (shape_of k).frame) (header_line k f)) (refuse 5) (λ h.
+    on_some (header_of (header_table (shape_of k).frame) (header_line k f)) (refuse 5) (λ h.
     cond (is_next_of last h.cycle) (trailer_checked k f h) (refuse 6))
 
 -- 1 | "register length or a slot unsound"
@@ -105,7 +103,7 @@ frame_checked k f last =
 -- 3 | "file length isn't 400 + 512n (guide: 400 + 200n), n at most 9999"
 -- 4 | "answers buffer shorter than n": room is its length
 -- and then header, trailer and lines
-unfoldable pub checked : Kind → Stores → List ℕ → ℕ → Cycle → Checked
+unfoldable pub checked : Kind → Stores → List ℕ → ℕ → Cycle → Result Header Refusal
 checked k s f room last =
     cond (register_sound s.register)
     (cond (guide_sound s.guide)
@@ -199,9 +197,9 @@ applied_file k h s f answers =
       answers = answers_to k h f s (lines_in k f) ++ drop (lines_in k f) answers;
     }
 
-abbrev pub on_checked : {A : Type 0} → Checked → (Header → A) → (Refusal → A) → A
-on_checked (Good h) good refused = good h
-on_checked (Refused r) good refused = refused r
+abbrev pub on_checked : {A : Type 0} → Result Header Refusal → (Header → A) → (Refusal → A) → A
+on_checked (Ok h) good refused = good h
+on_checked (Err r) good refused = refused r
 
 unfoldable pub taken : Kind → Stores → List ℕ → List ℕ → ℕ → Outcome
 taken k s f answers last =

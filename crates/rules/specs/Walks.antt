@@ -1,32 +1,18 @@
 -- The one walk: the lowest place that passes a test, and how many places it looked at; a count; and a table whose first hit decides.
 -- Assumes nothing.
-use Rattle.std.specs.Prelude.{ℕ, zero, suc, ◌+◌, List, [], ◌∷◌, Bool, true, false, cond}
-use Rattle.rules.specs.declared.Found.{Found}
-use Rattle.rules.specs.declared.Found.TheVariants.{At, Nothing}
+use Rattle.std.specs.Option.{option_or}
+use Rattle.std.specs.Prelude.{ℕ, zero, suc, ◌+◌, List, [], ◌∷◌, Bool, cond, Option, Some, None}
 use Rattle.rules.specs.declared.Sought.{Sought}
 
-abbrev pub or_else : Found → Found → Found
-or_else (At i) o = At i
-or_else Nothing o = o
-
-abbrev pub is_nothing : Found → Bool
-is_nothing (At i) = false
-is_nothing Nothing = true
-
--- what is made of the place, or what stands where there is none
-abbrev pub on_found : {A : Type 0} → Found → A → (ℕ → A) → A
-on_found (At i) other k = k i
-on_found Nothing other k = other
-
 -- the lowest place below n that passes the test
-unfoldable pub find : (ℕ → Bool) → ℕ → Found
-find p zero = Nothing
-find p (suc n) = or_else (find p n) (cond (p n) (At n) Nothing)
+unfoldable pub find : (ℕ → Bool) → ℕ → Option ℕ
+find p zero = None
+find p (suc n) = option_or (find p n) (cond (p n) (Some n) None)
 
 -- "the slots looked at: slot number + 1 if found, all slots if not"
-abbrev pub looked_at : ℕ → Found → ℕ
-looked_at n (At i) = i + 1
-looked_at n Nothing = n
+abbrev pub looked_at : ℕ → Option ℕ → ℕ
+looked_at n (Some i) = i + 1
+looked_at n None = n
 
 unfoldable pub walked : (ℕ → Bool) → ℕ → ℕ
 walked p n = looked_at n (find p n)

@@ -1,44 +1,76 @@
 // The answers to a data record and to a guide row, each with when it is given. `specs/` has both tables.
+ghost use Rattle.std.specs.Prelude.{◌≡◌};
+ghost use Rattle.rules.specs.Answering.{undone_number};
+
+// The answer byte of a line that was done.
 pub const DONE: u8 = 0;
 
-// "record date after the header's date"
-pub const AFTER_HEADER: u8 = 11;
+// Why a line was not done.
+#[derive(Clone, Copy, PartialEq, Eq)]
+pub enum Undone {
+    // "record date after the header's date"
+    AfterHeader,
 
-// "I, number held or open"
-pub const ALREADY_THERE: u8 = 12;
+    // "I, number held or open"
+    AlreadyThere,
 
-// "C, D, U, M, number absent or resting"
-pub const NOT_THERE: u8 = 13;
+    // "C, D, U, M, number absent or resting"
+    NotThere,
 
-// "M, held"
-pub const STILL_HELD: u8 = 14;
+    // "M, held"
+    StillHeld,
 
-// "C, D, U, open"
-pub const OPEN: u8 = 15;
+    // "C, D, U, open"
+    Open,
 
-// "C, D, U, held, Company ID differs from the slot's"
-pub const OTHER_COMPANY: u8 = 16;
+    // "C, D, U, held, Company ID differs from the slot's"
+    OtherCompany,
 
-// "date before the slot's day; for I on a resting number, same day or before"
-pub const TOO_EARLY: u8 = 17;
+    // "date before the slot's day; for I on a resting number, same day or before"
+    TooEarly,
 
-// "I, C, M: no guide row covers the address"
-pub const NO_ROW: u8 = 18;
+    // "I, C, M: no guide row covers the address"
+    NoRow,
 
-// "I, C, M: ESN not blank and differs from that of the lowest covering row"
-pub const OTHER_ESN: u8 = 19;
+    // "I, C, M: ESN not blank and differs from that of the lowest covering row"
+    OtherEsn,
 
-// "I, absent: no free slot, and no resting slot at least 90 days before the header's date"
-pub const NO_SLOT: u8 = 20;
+    // "I, absent: no free slot, and no resting slot at least 90 days before the header's date"
+    NoSlot,
 
-// guide I: "some house number is covered by it and by a present row of the same street fields"
-pub const CLASH: u8 = 21;
+    // guide I: "some house number is covered by it and by a present row of the same street fields"
+    Clash,
 
-// guide I: "no free slot"
-pub const GUIDE_FULL: u8 = 22;
+    // guide I: "no free slot"
+    GuideFull,
 
-// guide D: "no row has the same street fields, Low and High as numbers, parity and ESN bytes"
-pub const NO_SUCH_ROW: u8 = 23;
+    // guide D: "no row has the same street fields, Low and High as numbers, parity and ESN bytes"
+    NoSuchRow,
 
-// guide D: "a held or open entry is covered by the lowest such row"
-pub const ROW_IN_USE: u8 = 24;
+    // guide D: "a held or open entry is covered by the lowest such row"
+    RowInUse,
+}
+
+impl Undone {
+    // The answer byte.
+    pub fn number(self) -> u8
+        ensures { result ≡ undone_number self }
+    {
+        match self {
+            Undone::AfterHeader => 11,
+            Undone::AlreadyThere => 12,
+            Undone::NotThere => 13,
+            Undone::StillHeld => 14,
+            Undone::Open => 15,
+            Undone::OtherCompany => 16,
+            Undone::TooEarly => 17,
+            Undone::NoRow => 18,
+            Undone::OtherEsn => 19,
+            Undone::NoSlot => 20,
+            Undone::Clash => 21,
+            Undone::GuideFull => 22,
+            Undone::NoSuchRow => 23,
+            Undone::RowInUse => 24,
+        }
+    }
+}

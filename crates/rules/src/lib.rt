@@ -1,9 +1,7 @@
-// What the description's steps answer with. This crate has no function: `specs/` says what taking a file is, in the order and the
-// words of the description, and `proofs/` what follows from that.
+// What the description's steps answer with. `specs/` says what taking a file is, in the order and the words of the description, and
+// `proofs/` what follows from that. The only functions here give an answer and a refusal their numbers.
 #![tactic(auto)]
 
-use calendar::Day;
-use layout::frame::Header;
 use versions::Version;
 
 pub mod answering;
@@ -18,7 +16,7 @@ pub enum Kind {
 }
 
 // The code of a data record.
-#[derive(Clone, Copy)]
+#[derive(Clone, Copy, PartialEq, Eq)]
 pub enum Code {
     Insert,
     Change,
@@ -27,36 +25,21 @@ pub enum Code {
     Migrate,
 }
 
-// What a step reads off a data record first: its code and its date. A checked record has both.
-#[derive(Clone, Copy)]
-pub enum Filed {
-    Record(Code, Day),
-    NoRecord,
-}
-
-// The code of a guide row; a checked row has one.
-#[derive(Clone, Copy)]
+// The code of a guide row.
+#[derive(Clone, Copy, PartialEq, Eq)]
 pub enum RowCode {
     Insert,
     Delete,
-    NoCode,
 }
 
-// The lowest place that passes a test.
-#[derive(Clone, Copy)]
-pub enum Found {
-    At(usize),
-    Nothing,
-}
-
-// The same, with the number of places looked at.
+// The lowest place that passes a test, if one does, and the number of places looked at.
 #[derive(Clone, Copy)]
 pub struct Sought {
-    pub found: Found,
+    pub found: Option<usize>,
     pub looked: usize,
 }
 
-// The number of a refusal; place and position are 0 but in 9.
+// What is told of a refused file, as the definitions name it; place and position are 0 but in 9. The code hands up `Refused`.
 #[derive(Clone, Copy)]
 pub struct Refusal {
     pub number: u32,
@@ -64,14 +47,7 @@ pub struct Refusal {
     pub position: u32,
 }
 
-// What the checks of a file say: its header, or why it is refused.
-#[derive(Clone, Copy)]
-pub enum Checked {
-    Good(Header),
-    Refused(Refusal),
-}
-
-// What a take returns.
+// What a take returns, laid out for C, which knows no enum with values: so are what a load file and a conversion return.
 #[repr(C)]
 #[derive(Clone, Copy)]
 pub struct Taken {
@@ -84,7 +60,8 @@ pub struct Taken {
     pub last: u32,
 }
 
-// What a lookup answers; state and slot are 0 for an absent number, all but the refusal are 0 in a refusal.
+// What a lookup answers, each a number, as it is packed for C; state and slot are 0 for an absent number, all but the refusal are 0 in a
+// refusal.
 #[derive(Clone, Copy)]
 pub struct Seen {
     pub refusal: u32,

@@ -1,5 +1,6 @@
 -- What a pair leaves of a draft, by its label: one that is not taken is noted and nothing else; one that is taken is seen, and its value
 -- is put into its row. So no pair changes how many bytes there are. Assumes nothing.
+use Rattle.std.specs.Prelude.{Option, Some, None}
 use mathlib.Core.Path.{◌≡◌, refl, ap, ◌∙◌}
 use mathlib.Core.Logic.{◌≢◌}
 use mathlib.Core.Bool.{Bool, true, false, cond}
@@ -10,8 +11,6 @@ use lib.Dec.{eqb}
 use lib.ListN.{length, get_or, length-set, length-replicate}
 use lib.Seq.{get_or-set_same, get_or-set_other}
 use Rattle.text.specs.Text.{part, spaces, put_at}
-use Rattle.rules.specs.declared.Found.{Found}
-use Rattle.rules.specs.declared.Found.TheVariants.{At, Nothing}
 use Rattle.rules.proofs.WalkLaws.{find_some}
 use Rattle.rules.proofs.LoadLength.{put_length}
 use Rattle.tag_rules.specs.Tags.{calendar_date, postal, span_at, span_size, form_at}
@@ -21,25 +20,25 @@ use Rattle.tag_rules.specs.Reading.{is_label, tag_of, value_in, Draft, unknown_t
 -- ---- the label of a pair
 
 pub data Tag (p : List ℕ) : Type 0 where
-  unknown : tag_of p ≡ Nothing → Tag p
-  known : (k : ℕ) → k < 28 → tag_of p ≡ At k → Tag p
+  unknown : tag_of p ≡ None → Tag p
+  known : (k : ℕ) → k < 28 → tag_of p ≡ Some k → Tag p
 
 pub tag_is : (p : List ℕ) → Tag p
 unfolding tag_of
 tag_is p = go (tag_of p) refl
   where
-    go : (o : Found) → tag_of p ≡ o → Tag p
-    go Nothing e = unknown e
-    go (At k) e = known k (find_some (is_label p) 28 k e).0 e
+    go : (o : Option ℕ) → tag_of p ≡ o → Tag p
+    go None e = unknown e
+    go (Some k) e = known k (find_some (is_label p) 28 k e).0 e
 
 -- ---- what it leaves
 
 module _ (p : List ℕ) (w : Draft) where
-  pub took_unknown : tag_of p ≡ Nothing → pair_taken p w ≡ unknown_taken w
+  pub took_unknown : tag_of p ≡ None → pair_taken p w ≡ unknown_taken w
   unfolding pair_taken
   took_unknown e = rw e refl
 
-  pub took_known : (k : ℕ) → tag_of p ≡ At k → pair_taken p w ≡ label_taken k (value_in p) w
+  pub took_known : (k : ℕ) → tag_of p ≡ Some k → pair_taken p w ≡ label_taken k (value_in p) w
   unfolding pair_taken
   took_known k e = rw e refl
 

@@ -1,5 +1,7 @@
 -- A text that is refused by 34 or 36 has a pair that alone is refused so. What is noted of a text was noted at one of its pairs; that
 -- pair's label, or its value, is noted again where it stands alone, and nothing else is. Assumes nothing.
+use Rattle.std.proofs.lemmas.Bool.{not-true}
+use Rattle.std.specs.Prelude.{Some, None}
 use mathlib.Core.Path.{◌≡◌, refl, sym, ap, subst, ◌∙◌}
 use mathlib.Core.Logic.{◌≢◌, ◌⊎◌, inl, inr}
 use mathlib.Core.Bool.{Bool, true, false, ◌||◌}
@@ -13,9 +15,8 @@ use Rattle.text.specs.declared.Class.TheVariants.{Unbarred}
 use Rattle.text.specs.Text.{all_in}
 use Rattle.layout.specs.Tables.{data_record}
 use Rattle.layout.specs.Rules.{record_fault}
-use Rattle.rules.specs.declared.Found.TheVariants.{At, Nothing}
 use Rattle.rules.specs.Walks.{first}
-use Rattle.rules.proofs.WalkLaws.{decided, clash-bool, not_true, hit_by, first_hit}
+use Rattle.rules.proofs.WalkLaws.{decided, clash-bool, hit_by, first_hit}
 use Rattle.tag_rules.specs.declared.Notes.{Notes}
 use Rattle.tag_rules.specs.Tags.{span_size, form_at}
 use Rattle.tag_rules.specs.Forms.{fits}
@@ -59,17 +60,17 @@ first_noted f (p ∷ ps) w n e = go (first_noted f ps (pair_taken p w)) (decided
         }
 
 -- it has a label that is not taken
-noted_unknown : (p : List ℕ) (w : Draft) → w.notes.unknown ≡ false → (pair_taken p w).notes.unknown ≡ true → tag_of p ≡ Nothing
+noted_unknown : (p : List ℕ) (w : Draft) → w.notes.unknown ≡ false → (pair_taken p w).notes.unknown ≡ true → tag_of p ≡ None
 noted_unknown p w n e = go (tag_is p)
   where
-    go : Tag p → tag_of p ≡ Nothing
+    go : Tag p → tag_of p ≡ None
     go (unknown q) = q
     go (known k h q) = clash-bool (rw (took_known p w k q) at e) n
 
 -- or a value that does not fit
 record Unfit (p : List ℕ) : Type 0 where
   row : ℕ
-  tag : tag_of p ≡ At row
+  tag : tag_of p ≡ Some row
   misfit : fits (form_at row) (span_size row) (value_in p) ≡ false
 
 noted_unfit : (p : List ℕ) (w : Draft) → w.notes.unfit ≡ false → (pair_taken p w).notes.unfit ≡ true → Unfit p
@@ -78,7 +79,7 @@ noted_unfit p w n e = go (tag_is p)
     go : Tag p → Unfit p
     go (unknown q) = clash-bool (rw (took_unknown p w q) at e) n
     go (known k h q) =
-        record { row = k; tag = q; misfit = not_true (fits (form_at k) (span_size k) (value_in p)) (rw (took_known p w k q, n) at e) }
+        record { row = k; tag = q; misfit = not-true (fits (form_at k) (span_size k) (value_in p)) (rw (took_known p w k q, n) at e) }
 
 -- ---- the text of a pair alone, and of all
 
@@ -96,7 +97,7 @@ refused_by ps out a =
     ∙ refusal_is out w.line (refusal_by w (length out)) (record_fault data_record w.line) 512
     ∙ ap (λ (x : Draft). refusal_by x (length out)) same
 
-alone_unknown : (p : List ℕ) (room : ℕ) → tag_of p ≡ Nothing → refusal_by (all_taken (p ∷ []) blank_draft) room ≡ 34
+alone_unknown : (p : List ℕ) (room : ℕ) → tag_of p ≡ None → refusal_by (all_taken (p ∷ []) blank_draft) room ≡ 34
 unfolding all_taken first
 alone_unknown p room e = rw (took_unknown p blank_draft e) refl
 

@@ -1,6 +1,7 @@
 -- "Reading accepts any order": two neighbouring pairs change places. With different labels the drafts are the same, as their rows lie
 -- apart; with the same label both drafts note it twice, so what they hold in its row is never looked at. What comes behind keeps that:
 -- notes and labels seen do not depend on the record. Assumes nothing.
+use Rattle.std.specs.Prelude.{Some}
 use mathlib.Core.Path.{◌≡◌, refl, sym, ap, ◌∙◌}
 use mathlib.Core.Logic.{◌≢◌, ◌⊎◌, inl, inr}
 use mathlib.Core.Bool.{Bool, true, false, ◌||◌, not, cond}
@@ -16,7 +17,6 @@ use Rattle.text.specs.Text.{all_in, put_at}
 use Rattle.text.proofs.Laws.{or_left, or_right}
 use Rattle.layout.specs.Tables.{data_record}
 use Rattle.layout.specs.Rules.{record_fault}
-use Rattle.rules.specs.declared.Found.TheVariants.{At}
 use Rattle.rules.specs.Walks.{first}
 use Rattle.tag_rules.specs.declared.Notes.{Notes}
 use Rattle.tag_rules.specs.Tags.{span_at, span_size, form_at, span_of}
@@ -172,7 +172,7 @@ swapped : (p q : List ℕ) (w : Draft) → Sized w → Alike (pair_taken q (pair
 swapped p q w z = go (tag_is p) (tag_is q)
   where
     -- the same label: seen by the first, noted twice by the second
-    same : (k : ℕ) → k < 28 → tag_of p ≡ At k → tag_of q ≡ At k → Alike (pair_taken q (pair_taken p w)) (pair_taken p (pair_taken q w))
+    same : (k : ℕ) → k < 28 → tag_of p ≡ Some k → tag_of q ≡ Some k → Alike (pair_taken q (pair_taken p w)) (pair_taken p (pair_taken q w))
     same k h e f =
         let s = seen_now k (value_in p) w z h in
         rw (took_known q (pair_taken p w) k f, took_known p (pair_taken q w) k e, took_known p w k e, took_known q w k f, s)
@@ -184,7 +184,7 @@ swapped p q w z = go (tag_is p) (tag_is q)
           line = inr (or_right (w.notes.twice || eqb (get_or w.seen k 0) 1) true refl);
         })
 
-    other : (j k : ℕ) → j < 28 → k < 28 → j ≢ k → tag_of p ≡ At j → tag_of q ≡ At k
+    other : (j k : ℕ) → j < 28 → k < 28 → j ≢ k → tag_of p ≡ Some j → tag_of q ≡ Some k
         → Alike (pair_taken q (pair_taken p w)) (pair_taken p (pair_taken q w))
     other j k hj hk n e f =
         let s = seen_other j k (value_in p) w (λ d. n (sym d)) in

@@ -1,6 +1,7 @@
 -- Reading what was written gives the same record: at the end of the walk (Upto at 28) every row is the record's, those without a label
 -- because they were blank, `*` because the record is good; and two records that are the same in all rows of a tiling table are the
 -- same. Assumes nothing.
+use Rattle.std.specs.Option.{is_none}
 use mathlib.Core.Path.{◌≡◌, refl, sym, ap, ◌∙◌}
 use mathlib.Core.Logic.{◌⊎◌, inl, inr}
 use mathlib.Core.Bool.{Bool, true, false, ◌&&◌, ◌||◌, cond}
@@ -19,8 +20,8 @@ use Rattle.text.proofs.TrimLaws.{blank_is}
 use Rattle.layout.specs.Tables.{data_record, star, record_star}
 use Rattle.layout.specs.Rules.{keeps, keeps_other, is_whole, fault_by, is_lax, record_fault}
 use Rattle.layout.specs.Fields.{function_of}
-use Rattle.rules.specs.Walks.{find, first, is_nothing}
-use Rattle.rules.proofs.WalkLaws.{find_none, is_nothing_lem, AllFail, positive, first_zero}
+use Rattle.rules.specs.Walks.{find, first}
+use Rattle.rules.proofs.WalkLaws.{find_none, is_none_lem, AllFail, positive, first_zero}
 use Rattle.rules.proofs.PlaceLaws.{part_length}
 use Rattle.rules.proofs.SoundLaws.{fault_at_lem}
 use Rattle.tag_rules.specs.Tags.{label_at, span_at, span_size, form_at, span_of}
@@ -96,20 +97,20 @@ module _ (P : List ℕ) (h : (P ≡ []) ⊎ ((t : List ℕ) × (P ≡ 124 ∷ t)
 module _ (r : List ℕ) (l : length r ≡ 512) (good : record_fault data_record r ≡ 0) (form : has_form r ≡ true) where
   clean : all_in Unbarred r ≡ true
   unfolding has_form
-  clean = and_left (all_in Unbarred r) (is_bare r && is_nothing (find (unformed_at r) 28)) form
+  clean = and_left (all_in Unbarred r) (is_bare r && is_none (find (unformed_at r) 28)) form
 
   bare : is_bare r ≡ true
   unfolding has_form
   bare =
       let o = find (unformed_at r) 28 in
-      and_left (is_bare r) (is_nothing o) (and_right (all_in Unbarred r) (is_bare r && is_nothing o) form)
+      and_left (is_bare r) (is_none o) (and_right (all_in Unbarred r) (is_bare r && is_none o) form)
 
   forms : (k : ℕ) → k < 28 → formed (form_at k) (span_of k r) ≡ true
   unfolding has_form unformed_at
   forms k h =
       let o = find (unformed_at r) 28 in
-      let n = and_right (is_bare r) (is_nothing o) (and_right (all_in Unbarred r) (is_bare r && is_nothing o) form) in
-      not-false (formed (form_at k) (span_of k r)) (find_none (unformed_at r) 28 (is_nothing_lem o n) k h)
+      let n = and_right (is_bare r) (is_none o) (and_right (all_in Unbarred r) (is_bare r && is_none o) form) in
+      not-false (formed (form_at k) (span_of k r)) (find_none (unformed_at r) 28 (is_none_lem o n) k h)
 
   abbrev walk : Draft
   walk = all_taken (pairs_of (pairs_to r 28)) blank_draft

@@ -1,5 +1,7 @@
 -- What was read: a record of 512 bytes that keeps every field rule, so it stands in a file like any other; and it can be written, as
 -- each of its rows holds what a value stands for that fits, or nothing. Assumes nothing.
+use Rattle.std.proofs.lemmas.Bool.{not-false}
+use Rattle.std.specs.Prelude.{Some}
 use mathlib.Core.Path.{◌≡◌, refl, ap, ◌∙◌}
 use mathlib.Core.Bool.{Bool, true, false, ◌&&◌, ◌||◌, not, cond}
 use mathlib.Core.List.{List, [], ◌∷◌, ◌++◌}
@@ -19,9 +21,8 @@ use Rattle.layout.specs.Tables.{data_record}
 use Rattle.layout.specs.Rules.{record_fault}
 use Rattle.versions.specs.declared.Version.TheVariants.{Two}
 use Rattle.rules.specs.declared.Kind.TheVariants.{Data}
-use Rattle.rules.specs.declared.Found.TheVariants.{At}
 use Rattle.rules.specs.Takes.{lines_in, line_at, bad_line, lines_checked}
-use Rattle.rules.proofs.WalkLaws.{clash-bool, not_false, find_nowhere}
+use Rattle.rules.proofs.WalkLaws.{clash-bool, find_nowhere}
 use Rattle.tag_rules.specs.Tags.{plain, calendar_date, postal, span_at, span_size, form_at, span_of}
 use Rattle.tag_rules.specs.Forms.{turned, spread, worded, filled, formed, fits}
 use Rattle.tag_rules.specs.Reading.{body_of, parted, pushed, pairs_of, tag_of, value_in, Draft, pair_taken, all_taken, blank_line, blank_draft, draft_of, read_refusal, text_read}
@@ -142,7 +143,7 @@ kept_pair : (p : List ℕ) → all_in Unbarred p ≡ true → (w : Draft) → Ke
 kept_pair p c w t = go (tag_is p)
   where
     -- a pair of label k
-    taken : (k : ℕ) → k < 28 → tag_of p ≡ At k → Kept (pair_taken p w)
+    taken : (k : ℕ) → k < 28 → tag_of p ≡ Some k → Kept (pair_taken p w)
     taken k h e =
         let b : List ℕ = spread (form_at k) (span_size k) (value_in p) in
         let long : length b ≡ span_size k = spread_length (form_at k) (span_size k) (value_in p) in
@@ -154,7 +155,7 @@ kept_pair p c w t = go (tag_is p)
           bare = λ j l m. put_other w.line b k t.sized.line (omega arith) long j m (λ f. omega arith) ∙ t.bare j l m;
           forms = λ u j m.
               let n = neither w.notes.unfit (not (fits (form_at k) (span_size k) (value_in p))) u in
-              form (ℕ_discrete j k) m n.0 (not_false (fits (form_at k) (span_size k) (value_in p)) n.1);
+              form (ℕ_discrete j k) m n.0 (not-false (fits (form_at k) (span_size k) (value_in p)) n.1);
         })
       where
         form : {j : ℕ} → Dec (j ≡ k) → j < 28 → w.notes.unfit ≡ false → fits (form_at k) (span_size k) (value_in p) ≡ true

@@ -94,10 +94,6 @@ room_more k h = leb-true (room_to k + room_at k) 448 (every_at roomy 28 k all_ro
 pub room_all : room_to tag_count ≡ 448
 room_all = refl
 
-pub room_mono : (k : ℕ) → k ≤ 28 → room_to k ≤ room_to 28
-room_mono zero h = omega arith
-room_mono (suc k) h = rw room_all (room_more k (omega arith))
-
 pub text_room : text_most ≡ 452
 text_room = refl
 

@@ -1,5 +1,6 @@
 -- The table of labels, by computed tests: each label has three letters, no `|` and is one of its own, so the row of a pair is the one
 -- with its letters; each row has bytes of its own. Assumes nothing.
+use Rattle.std.specs.Prelude.{Some}
 use mathlib.Core.Path.{◌≡◌, refl, ap, ◌∙◌}
 use mathlib.Core.Logic.{◌≢◌}
 use mathlib.Core.Bool.{Bool, true, false, ◌&&◌, ◌||◌, not}
@@ -14,7 +15,6 @@ use Rattle.text.specs.declared.Class.TheVariants.{Unbarred}
 use Rattle.text.specs.Text.{all_in, same_bytes}
 use Rattle.text.proofs.Laws.{and_left, and_right, same_refl}
 use Rattle.calendar.proofs.DayLaws.{every, every_at}
-use Rattle.rules.specs.declared.Found.TheVariants.{At}
 use Rattle.rules.proofs.WalkLaws.{find_hit, find_nowhere}
 use Rattle.tag_rules.specs.Tags.{label_at, span_at, span_size}
 use Rattle.tag_rules.specs.Reading.{is_label, tag_of}
@@ -54,7 +54,7 @@ module _ (k : ℕ) (h : k < 28) where
       not-true (same_bytes (label_at j) (label_at k)) (rw (ne_eqb j k n) at t)
 
   -- the row of a pair with this label
-  pub tag_of_lem : (v : List ℕ) → tag_of (label_at k ++ v) ≡ At k
+  pub tag_of_lem : (v : List ℕ) → tag_of (label_at k ++ v) ≡ Some k
   unfolding tag_of
   tag_of_lem v =
       find_hit (is_label (label_at k ++ v)) 28 k

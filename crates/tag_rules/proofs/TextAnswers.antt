@@ -1,5 +1,6 @@
 -- Every text and every record is answered: the table's first hit is one of its numbers, what is refused leaves the output as it was, and
 -- what is done is the table's every test failed. Assumes nothing.
+use Rattle.std.proofs.lemmas.Bool.{not-true, not-false}
 use mathlib.Core.Path.{◌≡◌, refl, sym, ◌∙◌}
 use mathlib.Core.Logic.{◌≢◌}
 use mathlib.Core.Bool.{Bool, true, false, ◌&&◌, ◌||◌, not, cond}
@@ -18,7 +19,7 @@ use Rattle.versions.specs.declared.Version.TheVariants.{Two}
 use Rattle.rules.specs.declared.Kind.TheVariants.{Data}
 use Rattle.rules.specs.Answered.{starts_in}
 use Rattle.rules.specs.Walks.{first}
-use Rattle.rules.proofs.WalkLaws.{clash-bool, not_false, not_true, AllFail, positive, first_zero, numbers_in, first_in, hit_by, first_hit}
+use Rattle.rules.proofs.WalkLaws.{clash-bool, AllFail, positive, first_zero, numbers_in, first_in, hit_by, first_hit}
 use Rattle.rules.proofs.FaultLaws.{line_fault_starts}
 use Rattle.tag_rules.specs.Reading.{is_framed, pairs_of, body_of, draft_of, blank_draft, read_table, read_refusal, TextOutcome, refused_text, text_read}
 use Rattle.tag_rules.specs.Writing.{tagged_of, write_table, write_refusal, fault_of, text_written}
@@ -75,7 +76,7 @@ module _ (out text : List ℕ) (n pos bytes : ℕ) where
 -- a fault that is told is at a field's first byte
 fault_placed : (r : List ℕ) → not (eqb (record_fault data_record r) 0) ≡ true
     → member_of (record_fault data_record r) (starts_in data_record) ≡ true
-fault_placed r e = line_fault_starts (Data Two) r (eqb-false (record_fault data_record r) 0 (not_true (eqb (record_fault data_record r) 0) e))
+fault_placed r e = line_fault_starts (Data Two) r (eqb-false (record_fault data_record r) 0 (not-true (eqb (record_fault data_record r) 0) e))
 
 pub or_first : (b : Bool) → (b || false) ≡ true → b ≡ true
 or_first true e = refl
@@ -101,11 +102,11 @@ module _ (s out : List ℕ) where
       let f = first_zero (read_table s (length out) (draft_of s)) refl e in
       let fault = record_fault data_record (draft_of s).line in
       record {
-        framed = not_false (is_framed s) f.0;
+        framed = not-false (is_framed s) f.0;
         known = f.1.0;
         once = f.1.1.0;
         fit = f.1.1.1.0;
-        good = eqb-true fault 0 (not_false (eqb fault 0) f.1.1.1.1.0);
+        good = eqb-true fault 0 (not-false (eqb fault 0) f.1.1.1.1.0);
         room = ltb-false (length out) 512 f.1.1.1.1.1.0;
       }
 

@@ -2,7 +2,7 @@
 -- in `proofs/YearLaws` same_year, in `proofs/Orders` any_order, in `proofs/RecordRead` reads_good, in_file and reads_writable, in
 -- `proofs/TextAnswers` reads_answer, writes_answer, one_read and one_write, in `proofs/Naming` names_pair.
 -- Assumes nothing.
-use Rattle.std.specs.Prelude.{ℕ, ◌+◌, ◌≤◌, ◌<◌, ◌≡◌, ◌≢◌, List, [], ◌∷◌, ◌++◌, true, false, length, take, drop}
+use Rattle.std.specs.Prelude.{ℕ, ◌+◌, ◌≤◌, ◌<◌, ◌≡◌, ◌≢◌, List, [], ◌∷◌, ◌++◌, true, false, length, take, drop, Ok}
 use Rattle.text.specs.declared.Class.TheVariants.{Unbarred}
 use Rattle.text.specs.Text.{value_of, all_in, member_of, part, digits}
 use Rattle.calendar.specs.Calendar.{years_of}
@@ -11,7 +11,6 @@ use Rattle.layout.specs.Tables.{data_record}
 use Rattle.layout.specs.Rules.{record_fault}
 use Rattle.versions.specs.declared.Version.TheVariants.{Two}
 use Rattle.rules.specs.declared.Kind.TheVariants.{Data}
-use Rattle.rules.specs.declared.Checked.TheVariants.{Good}
 use Rattle.rules.specs.Answered.{starts_in}
 use Rattle.rules.specs.Takes.{lines_in, line_at, lines_checked}
 use Rattle.tag_rules.specs.declared.Tagged.{Tagged}
@@ -71,7 +70,7 @@ ReadsGood = (r : List ℕ) → WasRead r → (length r ≡ 512) × (record_fault
 unfoldable pub InFile : Type 0
 InFile =
     (f : List ℕ) (h : Header) → ((i : ℕ) → i < lines_in (Data Two) f → WasRead (line_at (Data Two) f i))
-    → lines_checked (Data Two) f h ≡ Good h
+    → lines_checked (Data Two) f h ≡ Ok h
 
 -- what is read can be written, and so has its one tagged form
 unfoldable pub ReadsWritable : Type 0

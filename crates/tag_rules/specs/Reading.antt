@@ -1,11 +1,10 @@
 -- 2026-12, reading: "`DAT`, then for each field `|`, label and value .., then one newline byte", "reading accepts any order".
 -- Assumes nothing.
-use Rattle.std.specs.Prelude.{ℕ, ◌-◌, ◌≡◌, List, [], ◌∷◌, ◌++◌, Bool, true, false, ◌&&◌, ◌||◌, not, cond, leb, ltb, eqb, length, drop, get_or, set, replicate}
-use Rattle.text.specs.Text.{same_bytes, part, spaces, put_at}
+use Rattle.std.specs.Prelude.{ℕ, ◌-◌, ◌≡◌, List, [], ◌∷◌, ◌++◌, Bool, true, false, ◌&&◌, ◌||◌, not, cond, leb, ltb, eqb, length, drop, get_or, set, replicate, Option}
+use Rattle.text.specs.Text.{same_bytes, part, spaces, put_at, on_some}
 use Rattle.layout.specs.Tables.{data_record}
 use Rattle.layout.specs.Rules.{record_fault}
-use Rattle.rules.specs.declared.Found.{Found}
-use Rattle.rules.specs.Walks.{find, first, on_found}
+use Rattle.rules.specs.Walks.{find, first}
 use Rattle.tag_rules.specs.declared.Notes.{Notes}
 use Rattle.tag_rules.specs.declared.Tagged.{Tagged}
 use Rattle.tag_rules.specs.Tags.{tag_count, label_at, span_at, span_size, form_at}
@@ -45,7 +44,7 @@ pairs_of (b ∷ s) = parted s
 abbrev pub is_label : List ℕ → ℕ → Bool
 is_label p k = same_bytes (label_at k) (part 0 3 p)
 
-unfoldable pub tag_of : List ℕ → Found
+unfoldable pub tag_of : List ℕ → Option ℕ
 tag_of p = find (is_label p) tag_count
 
 abbrev pub value_in : List ℕ → List ℕ
@@ -81,7 +80,7 @@ label_taken k v w =
 
 -- a pair, by its label; and all pairs, one after the other
 unfoldable pub pair_taken : List ℕ → Draft → Draft
-pair_taken p w = on_found (tag_of p) (unknown_taken w) (λ k. label_taken k (value_in p) w)
+pair_taken p w = on_some (tag_of p) (unknown_taken w) (λ k. label_taken k (value_in p) w)
 
 unfoldable pub all_taken : List (List ℕ) → Draft → Draft
 all_taken [] w = w

@@ -1,11 +1,12 @@
 -- 2026-12, writing: "We write labels in the exhibit's order and omit blank fields, so each record has one tagged form".
 -- Assumes nothing.
+use Rattle.std.specs.Option.{is_none}
 use Rattle.std.specs.Prelude.{ℕ, zero, suc, ◌+◌, ◌≡◌, List, [], ◌∷◌, ◌++◌, Bool, ◌&&◌, not, cond, ltb, eqb, length, drop}
 use Rattle.text.specs.declared.Class.TheVariants.{Unbarred}
 use Rattle.text.specs.Text.{all_in, blank}
 use Rattle.layout.specs.Tables.{data_record}
 use Rattle.layout.specs.Rules.{record_fault}
-use Rattle.rules.specs.Walks.{find, first, is_nothing}
+use Rattle.rules.specs.Walks.{find, first}
 use Rattle.tag_rules.specs.declared.Tagged.{Tagged}
 use Rattle.tag_rules.specs.Tags.{tag_count, label_at, span_size, form_at, span_of}
 use Rattle.tag_rules.specs.Forms.{formed, worded, longest}
@@ -45,7 +46,7 @@ unformed_at r k = not (formed (form_at k) (span_of k r))
 
 -- 37: "if a value contains `|`" (a `|` in a field without a label is refused by 37 too), or one of the others
 unfoldable pub has_form : List ℕ → Bool
-has_form r = all_in Unbarred r && (is_bare r && is_nothing (find (unformed_at r) tag_count))
+has_form r = all_in Unbarred r && (is_bare r && is_none (find (unformed_at r) tag_count))
 
 -- "9; 37 when writing, after 9 ..; then 25"; a record has 512 bytes
 abbrev pub write_table : List ℕ → ℕ → List (Bool × ℕ)

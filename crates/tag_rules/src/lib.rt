@@ -4,7 +4,7 @@
 #![tactic(auto)]
 
 // What was noted on the walk over a text: a label that is not taken, one that came twice, a value that does not fit.
-#[derive(Clone, Copy)]
+#[derive(Clone, Copy, Default)]
 pub struct Notes {
     pub unknown: bool,
     pub twice: bool,

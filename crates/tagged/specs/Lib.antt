@@ -1,2 +1,2 @@
-pub mod Appends
+pub mod Rows
 pub mod Walking

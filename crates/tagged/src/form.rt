@@ -1,13 +1,27 @@
 // The value of a label, and the bytes of the record that it stands for.
-ghost use Rattle.std.specs.Prelude.{◌≡◌, true, false, eqb, ◌+◌, ◌≤◌, length};
+ghost use Rattle.std.specs.Prelude.{◌≡◌, true, ◌+◌, ◌≤◌, ◌++◌, ◌≢◌, length};
 ghost use Rattle.text.specs.Text.{blank, same_bytes};
-ghost use Rattle.tag_rules.specs.Tags.{plain, calendar_date, postal};
+ghost use Rattle.tag_rules.specs.Tags.{calendar_date, postal};
 ghost use Rattle.tag_rules.specs.Forms.{spread, century, worded, filled, formed, fits, shaped, longest};
-ghost use Rattle.tagged.specs.Appends.{Appends};
+ghost use Rattle.tagged.specs.Rows.{number};
+ghost use Rattle.tagged.specs.declared.form.Form.TheVariants.{Plain};
 
-use crate::table::{CALENDAR_DATE, PLAIN, POSTAL, TEN};
+use crate::written::Written;
 use layout::place;
 use text::Class;
+
+// How a value is written.
+#[derive(Clone, Copy)]
+pub enum Form {
+    // The field without the spaces at its end.
+    Plain,
+    // Ten digits.
+    Ten,
+    // CCYY-MM-DD.
+    CalendarDate,
+    // NNNNN or NNNNN-NNNN.
+    Postal,
+}
 
 // The longest value that is not plain has as many bytes.
 const LONGEST: usize = 10;
@@ -19,66 +33,104 @@ const MONTH_AT: usize = 5;
 
 const DAY_AT: usize = 8;
 
-// The bytes that a value stands for, in their place in the record, which is blank.
-pub fn spread(form: usize, v: &[u8], span: &mut [u8])
-    requires { blank span.old ≡ true }
-    ensures { span.new ≡ spread form (length span.old) v.now }
-{
-    if form == CALENDAR_DATE {
-        let turned = [
-            text::byte_of(v, MONTH_AT),
-            text::byte_of(v, MONTH_AT + 1),
-            text::byte_of(v, DAY_AT),
-            text::byte_of(v, DAY_AT + 1),
-            text::byte_of(v, YEAR_AT),
-            text::byte_of(v, YEAR_AT + 1),
-        ];
-        text::put(&mut span[..], 0, &turned);
-        return;
+impl Form {
+    // The bytes that a value stands for, in their place in the record, which is blank.
+    #[tactic(auto, using(text::proofs::TrimLaws::blank_is), unfolding(tag_rules::specs::Forms::spread))]
+    pub fn spread(self, v: &[u8], span: &mut [u8])
+        requires { blank span.old ≡ true }
+        ensures { span.new ≡ spread (number self) (length span.old) v.now }
+    {
+        match self {
+            Form::CalendarDate => {
+                let turned = [
+                    text::byte_of(v, MONTH_AT),
+                    text::byte_of(v, MONTH_AT + 1),
+                    text::byte_of(v, DAY_AT),
+                    text::byte_of(v, DAY_AT + 1),
+                    text::byte_of(v, YEAR_AT),
+                    text::byte_of(v, YEAR_AT + 1),
+                ];
+                text::put(span, 0, &turned);
+            }
+            Form::Postal => {
+                // Zip, and Zip+4 behind it; between them the value has one byte more.
+                let zip_4 = text::part_of(v, place::ZIP_SIZE + 1, place::ZIP_4_SIZE);
+                text::put(&mut span[..], 0, text::part_of(v, 0, place::ZIP_SIZE));
+                text::put(span, place::ZIP_SIZE, zip_4);
+            }
+            Form::Plain | Form::Ten => text::put(span, 0, v),
+        }
     }
-    if form == POSTAL {
-        // Zip, and Zip+4 behind it; between them the value has one byte more.
-        text::put(&mut span[..], 0, text::part_of(v, 0, place::ZIP_SIZE));
-        text::put(
-            &mut span[..],
-            place::ZIP_SIZE,
-            text::part_of(v, place::ZIP_SIZE + 1, place::ZIP_4_SIZE),
-        );
-        return;
-    }
-    text::put(&mut span[..], 0, v);
-}
 
-// Whether bytes of the record for a form that is not plain are filled with digits: five and none, or five and four, of Zip with Zip+4.
-fn is_filled(form: usize, f: &[u8]) -> bool
-    ensures { result ≡ filled form f.now }
-{
-    if form == POSTAL {
-        let four = text::part_of(f, place::ZIP_SIZE, place::ZIP_4_SIZE);
-        return text::all_in(text::part_of(f, 0, place::ZIP_SIZE), Class::Digit)
-            & (text::is_blank(four) | text::all_in(four, Class::Digit));
+    // Whether bytes of the record for a form that is not plain are filled with digits: five and none, or five and four, of Zip with
+    // Zip+4.
+    #[tactic(auto, unfolding(tag_rules::specs::Forms::filled))]
+    fn is_filled(self, f: &[u8]) -> bool
+        ensures { result ≡ filled (number self) f.now }
+    {
+        match self {
+            Form::Postal => {
+                let four = text::part_of(f, place::ZIP_SIZE, place::ZIP_4_SIZE);
+                text::all_in(text::part_of(f, 0, place::ZIP_SIZE), Class::Digit)
+                    & (text::is_blank(four) | text::all_in(four, Class::Digit))
+            }
+            _ => text::all_in(f, Class::Digit),
+        }
     }
-    text::all_in(f, Class::Digit)
-}
 
-// Whether bytes of the record have a tagged form.
-pub fn is_formed(form: usize, f: &[u8]) -> bool
-    ensures { result ≡ formed form f.now }
-{
-    if form == PLAIN {
-        return true;
+    // Whether bytes of the record have a tagged form.
+    #[tactic(auto, unfolding(tag_rules::specs::Forms::formed))]
+    pub fn is_formed(self, f: &[u8]) -> bool
+        ensures { result ≡ formed (number self) f.now }
+    {
+        match self {
+            Form::Plain => true,
+            _ => text::is_blank(f) | self.is_filled(f),
+        }
     }
-    text::is_blank(f) | is_filled(form, f)
-}
 
-// The bytes of b from `at` on; where the next ones go.
-pub fn append(out: &mut [u8], at: usize, b: &[u8]) -> usize
-    requires { at + length b.now ≤ length out.old }
-    ensures { Appends out.old at b.now result out.new }
-{
-    let end = at + b.len();
-    out[at..end].copy_from_slice(b);
-    end
+    // Writes the value for bytes of the record.
+    #[tactic(auto, using(text::proofs::TrimLaws::trim_length), unfolding(tag_rules::specs::Forms::worded))]
+    pub fn write<const N: usize>(self, f: &[u8], out: &mut Written<N>)
+        requires shaped { shaped (number self) (length f.now) ≡ true }
+        requires room { length out.old + longest (number self) (length f.now) ≤ N }
+        ensures { out.new ≡ out.old ++ worded (number self) f.now }
+    {
+        match self {
+            Form::CalendarDate => out.append(&date_of(f)),
+            Form::Postal => write_postal(f, out),
+            Form::Ten => out.append(f),
+            Form::Plain => out.append(text::trimmed(f)),
+        }
+    }
+
+    // Whether a value that is not plain is what is written for the bytes that it stands for.
+    #[tactic(auto, unfolding(tag_rules::specs::Forms::worded))]
+    fn is_worded(self, v: &[u8], span: &[u8]) -> bool
+        requires shaped { shaped (number self) (length span.now) ≡ true }
+        requires not_plain { self ≢ Plain }
+        ensures { result ≡ same_bytes (worded (number self) span.now) v.now }
+    {
+        match self {
+            Form::CalendarDate => text::same(&date_of(span), v),
+            Form::Postal => is_postal(v, span),
+            _ => text::same(span, v),
+        }
+    }
+
+    // Whether a value has a Version 2 form, given the bytes that it stands for: a plain one is no longer than its field, any other
+    // stands for digits and is what is written for them.
+    #[tactic(auto, unfolding(tag_rules::specs::Forms::fits))]
+    pub fn does_fit(self, v: &[u8], span: &[u8]) -> bool
+        requires shaped { shaped (number self) (length span.now) ≡ true }
+        requires spread { span.now ≡ spread (number self) (length span.now) v.now }
+        ensures { result ≡ fits (number self) (length span.now) v.now }
+    {
+        match self {
+            Form::Plain => v.len() <= span.len(),
+            _ => self.is_filled(span) & self.is_worded(v, span),
+        }
+    }
 }
 
 // The first two digits of a year, by the first of its last two.
@@ -97,30 +149,18 @@ fn date_of(f: &[u8]) -> [u8; 10]
     [cc[0], cc[1], f[4], f[5], b'-', f[0], f[1], b'-', f[2], f[3]]
 }
 
-// NNNNN or NNNNN-NNNN, from `at` on; where the next bytes go.
-fn put_postal(f: &[u8], out: &mut [u8], at: usize) -> usize
-    requires { (length f.now ≡ 9) × (at + 10 ≤ length out.old) }
-    ensures { Appends out.old at (worded postal f.now) result out.new }
+// NNNNN or NNNNN-NNNN.
+#[tactic(auto, unfolding(tag_rules::specs::Forms::worded))]
+fn write_postal<const N: usize>(f: &[u8], out: &mut Written<N>)
+    requires long { length f.now ≡ 9 }
+    requires room { length out.old + 10 ≤ N }
+    ensures { out.new ≡ out.old ++ worded postal f.now }
 {
-    let end = append(&mut out[..], at, &f[0..place::ZIP_SIZE]);
     let four = &f[place::ZIP_SIZE..place::ZIP_BOTH_SIZE];
-    if text::is_blank(four) {
-        return end;
-    }
-    let dash = append(&mut out[..], end, b"-");
-    append(&mut out[..], dash, four)
-}
-
-// The value for bytes of the record, from `at` on; where the next ones go.
-pub fn put_value(form: usize, f: &[u8], out: &mut [u8], at: usize) -> usize
-    requires { (shaped form (length f.now) ≡ true) × (at + longest form (length f.now) ≤ length out.old) }
-    ensures { Appends out.old at (worded form f.now) result out.new }
-{
-    match form {
-        CALENDAR_DATE => append(&mut out[..], at, &date_of(f)),
-        POSTAL => put_postal(f, &mut out[..], at),
-        TEN => append(&mut out[..], at, f),
-        _ => append(&mut out[..], at, text::trimmed(f)),
+    out.append(&f[..place::ZIP_SIZE]);
+    if !text::is_blank(four) {
+        out.append(b"-");
+        out.append(four);
     }
 }
 
@@ -129,31 +169,7 @@ fn is_postal(v: &[u8], span: &[u8]) -> bool
     requires { length span.now ≡ 9 }
     ensures { result ≡ same_bytes (worded postal span.now) v.now }
 {
-    let mut value = [0; LONGEST];
-    let n = put_postal(span, &mut value, 0);
-    text::same(&value[0..n], v)
-}
-
-// Whether a value that is not plain is what is written for the bytes that it stands for.
-fn is_worded(form: usize, v: &[u8], span: &[u8]) -> bool
-    requires { (shaped form (length span.now) ≡ true) × (eqb form plain ≡ false) }
-    ensures { result ≡ same_bytes (worded form span.now) v.now }
-{
-    match form {
-        CALENDAR_DATE => text::same(&date_of(span), v),
-        POSTAL => is_postal(v, span),
-        _ => text::same(span, v),
-    }
-}
-
-// Whether a value has a Version 2 form, given the bytes that it stands for: a plain one is no longer than its field, any other stands
-// for digits and is what is written for them.
-pub fn does_fit(form: usize, v: &[u8], span: &[u8]) -> bool
-    requires { (shaped form (length span.now) ≡ true) × (span.now ≡ spread form (length span.now) v.now) }
-    ensures { result ≡ fits form (length span.now) v.now }
-{
-    if form == PLAIN {
-        return v.len() <= span.len();
-    }
-    is_filled(form, span) & is_worded(form, v, span)
+    let mut value: Written<LONGEST> = Written::new();
+    write_postal(span, &mut value);
+    text::same(value.as_slice(), v)
 }

@@ -2,21 +2,25 @@
 #![tactic(auto)]
 
 ghost use Rattle.std.specs.Prelude.{◌≡◌};
+ghost use Rattle.rules.specs.Refusing.{refusal_number, refusal_position};
 
+use rules::refusing::Refused;
 use tag_rules::Tagged;
 
 mod form;
 pub mod read;
 mod table;
 pub mod write;
+mod written;
 
 // A refusal; the position is told in 9 only.
-fn refused(refusal: u32, position: u32) -> Tagged
-    ensures { result ≡ record { refusal = refusal; position = position; bytes = 0 } }
+fn refused(why: Refused) -> Tagged
+    ensures { result ≡ record { refusal = refusal_number why; position = refusal_position why; bytes = 0 } }
 {
+    let told = why.told();
     Tagged {
-        refusal,
-        position,
+        refusal: told.number,
+        position: told.position,
         bytes: 0,
     }
 }

@@ -1,14 +1,13 @@
 // Writing the one tagged text of a record: labels in the exhibit's order, blank fields omitted.
-ghost use Rattle.std.specs.Prelude.{◌≡◌, ◌+◌, ◌<◌, ◌≤◌, length};
-ghost use Rattle.rules.specs.Walks.{find, is_nothing};
-ghost use Rattle.tag_rules.specs.Tags.{labels, tags};
-ghost use Rattle.tag_rules.specs.Writing.{pair_of, pairs_to, tagged_of, room_at, is_bare, unformed_at, has_form, WritesText};
-ghost use Rattle.tagged.specs.Appends.{Appends};
+ghost use Rattle.std.specs.Option.{is_none};
+ghost use Rattle.std.specs.Prelude.{◌≡◌, ◌+◌, ◌<◌, ◌≤◌, [], ◌++◌, length};
+ghost use Rattle.rules.specs.Walks.{find};
+ghost use Rattle.tag_rules.specs.Writing.{pair_of, tagged_of, room_at, is_bare, unformed_at, has_form, WritesText};
 
-use crate::table::{LABELS, LETTERS, TAGS};
-use crate::{form, table};
+use crate::table;
+use crate::written::Written;
 use layout::place;
-use rules::refusing;
+use rules::refusing::{self, Refused};
 use tag_rules::Tagged;
 use text::Class;
 
@@ -16,6 +15,7 @@ use text::Class;
 const LONGEST: usize = 452;
 
 // Source, X to Z and Reserved have no label: they are blank.
+#[tactic(auto, unfolding(tag_rules::specs::Writing::is_bare))]
 fn is_bare(rec: &[u8]) -> bool
     ensures { result ≡ is_bare rec.now }
 {
@@ -25,17 +25,13 @@ fn is_bare(rec: &[u8]) -> bool
     source & (xyz & reserved)
 }
 
-// The bytes of every label have a tagged form.
+// The bytes of every label have a tagged form; by the label's number, by which the table's rows are known.
 fn are_formed(rec: &[u8]) -> bool
-    ensures { result ≡ is_nothing (find (unformed_at rec.now) 28) }
+    ensures { result ≡ is_none (find (unformed_at rec.now) 28) }
 {
-    let places: &[u16] = &TAGS;
-    let mut k: usize = 0;
-    while k < table::COUNT {
-        let row = table::row_at(places, k);
-        if form::is_formed(row.form, text::part_of(rec, row.at, row.size)) {
-            k += 1;
-        } else {
+    for k in 0..table::COUNT {
+        let row = table::row_at(k);
+        if !row.form.is_formed(row.field(rec)) {
             return false;
         }
     }
@@ -43,87 +39,72 @@ fn are_formed(rec: &[u8]) -> bool
 }
 
 // 37: whether a record has a tagged form.
+#[tactic(auto, unfolding(tag_rules::specs::Writing::has_form))]
 fn has_form(rec: &[u8]) -> bool
     ensures { result ≡ has_form rec.now }
 {
     text::all_in(rec, Class::Unbarred) & (is_bare(rec) & are_formed(rec))
 }
 
-// The pair of label k, from `at` on, if its bytes are not blank; where the next one goes.
-fn put_pair(
-    letters: &[u8],
-    places: &[u16],
-    k: usize,
-    rec: &[u8],
-    out: &mut [u8],
-    at: usize,
-) -> usize
-    requires { (letters.now ≡ labels) × ((places.now ≡ tags) × ((k < 28) × ((length rec.now ≡ 512) × (at + room_at k ≤ length out.old)))) }
-    ensures { Appends out.old at (pair_of rec.now k) result out.new }
+// The pair of label k, if its bytes are not blank.
+fn write_pair(rec: &[u8], k: usize, line: &mut Written<LONGEST>)
+    requires label { k < 28 }
+    requires long { length rec.now ≡ 512 }
+    requires room { length line.old + room_at k ≤ 452 }
+    ensures { line.new ≡ line.old ++ pair_of rec.now k }
 {
-    let row = table::row_at(places, k);
-    let a = row.at;
-    let e = a + row.size;
-    let field = &rec[a..e];
-    if text::is_blank(field) {
-        return at;
+    let row = table::row_at(k);
+    let field = row.field(rec);
+    if !text::is_blank(field) {
+        line.append(&row.label);
+        row.form.write(field, line);
     }
-    let i = LETTERS * k;
-    let j = i + LETTERS;
-    let bar = form::append(&mut out[..], at, b"|");
-    let label = form::append(&mut out[..], bar, &letters[i..j]);
-    form::put_value(row.form, field, &mut out[..], label)
 }
 
-// The pairs of all labels, from `at` on; where the next bytes go.
-fn put_pairs(rec: &[u8], out: &mut [u8], at: usize) -> usize
-    requires { (length rec.now ≡ 512) × (at + 448 ≤ length out.old) }
-    ensures { Appends out.old at (pairs_to rec.now 28) result out.new }
+// `DAT`, the pairs of all labels, and a newline.
+fn write_text(rec: &[u8], line: &mut Written<LONGEST>)
+    requires long { length rec.now ≡ 512 }
+    requires empty { line.old ≡ [] }
+    ensures { line.new ≡ tagged_of rec.now }
 {
-    let letters: &[u8] = &LABELS;
-    let places: &[u16] = &TAGS;
-    let mut end = at;
-    let mut k: usize = 0;
-    while k < table::COUNT {
-        end = put_pair(letters, places, k, rec, &mut out[..], end);
-        k += 1;
+    line.append(b"DAT");
+    for k in 0..table::COUNT {
+        write_pair(rec, k, line);
     }
-    end
+    line.append(b"\n");
 }
 
-// `DAT`, the pairs, and a newline; how many bytes they are.
-fn put_text(rec: &[u8], out: &mut [u8]) -> usize
-    requires { (length rec.now ≡ 512) × (length out.old ≡ 452) }
-    ensures { Appends out.old 0 (tagged_of rec.now) result out.new }
-{
-    let start = form::append(&mut out[..], 0, b"DAT");
-    let end = put_pairs(rec, &mut out[..], start);
-    form::append(&mut out[..], end, b"\n")
-}
-
-// Writes the tagged text of a record.
+// Writes the tagged text of a record. Refused by 9, 37 and 25, first hit decides, before a byte is written.
+#[tactic(auto, using(crate::proofs::TextLaws::fault_fits), unfolding(tag_rules::specs::Writing::text_written, tag_rules::specs::Writing::write_refusal, rules::specs::Walks::first))]
 pub fn write(rec: &[u8], out: &mut [u8]) -> Tagged
     ensures { WritesText rec.now out.old result out.new }
 {
     if rec.len() != place::RECORD_SIZE {
-        return crate::refused(refusing::FIELD_RULE, 0);
+        return crate::refused(Refused::FieldRule {
+            place: 0,
+            position: 0,
+        });
     }
     let fault = faults::record_fault(rec);
     if fault != 0 {
-        return crate::refused(refusing::FIELD_RULE, fault as u32);
+        return crate::refused(Refused::FieldRule {
+            place: 0,
+            position: fault as u32,
+        });
     }
     if !has_form(rec) {
-        return crate::refused(refusing::NO_TAGGED_FORM, 0);
+        return crate::refused(Refused::NoTaggedForm);
     }
-    let mut line = [b' '; LONGEST];
-    let n = put_text(rec, &mut line);
-    if out.len() < n {
-        return crate::refused(refusing::OUTPUT_SHORT, 0);
+    let mut line = Written::new();
+    write_text(rec, &mut line);
+    let bytes = line.as_slice();
+    if out.len() < bytes.len() {
+        return crate::refused(Refused::OutputShort);
     }
-    text::put(&mut out[..], 0, &line[0..n]);
+    out[..bytes.len()].copy_from_slice(bytes);
     Tagged {
         refusal: refusing::NONE,
         position: 0,
-        bytes: n as u32,
+        bytes: bytes.len() as u32,
     }
 }

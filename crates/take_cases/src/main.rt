@@ -4,48 +4,24 @@
 // slot, and files of several lines; some lines are of Version 1.
 #![tactic(auto)]
 
-ghost use Rattle.std.specs.Prelude.{◌≤◌, length, IfOk};
-
 mod calls;
 mod read;
-mod scan;
 mod write;
 
 use std::io;
 use std::io::Read;
 
-const LINE_END: u8 = b'\n';
-
-// A call for each line.
-fn each(rt: &impl Print, input: &[u8]) -> io::Result<()> {
-    let mut i = 0;
-    while i < input.len() {
-        let e = scan::find(input, i, LINE_END);
-        calls::run(rt, &input[i..e])?;
-        i = e + 1;
+fn main(rt: HostRuntime) -> io::Result<()> {
+    // More than the file stdin has; of a longer input no more than this is read.
+    let mut input = [0u8; 393216];
+    let mut reader = rt.reader().take(393216);
+    let mut room = &mut input[..];
+    io::copy(&mut reader, &mut room)?;
+    let left = room.len();
+    let n = input.len().saturating_sub(left);
+    // Behind the last line's end there is no other line.
+    for line in input[..n].split_inclusive(|b| *b == b'\n') {
+        calls::run(&rt, line.strip_suffix(b"\n").unwrap_or(line))?;
     }
     Ok(())
-}
-
-// Reads to the end of input, or until the buffer is full; how many bytes came.
-fn read_full(rt: &impl Input, input: &mut [u8]) -> io::Result<usize>
-    ensures { IfOk result (λ n. n ≤ length input.new) }
-{
-    let mut reader = rt.reader();
-    let mut n = 0;
-    while n < input.len() {
-        let got = reader.read(&mut input[n..])?;
-        if got == 0 {
-            break;
-        }
-        n += got;
-    }
-    Ok(n)
-}
-
-fn main(rt: HostRuntime) -> io::Result<()> {
-    // More than the file stdin has.
-    let mut input = [0u8; 393216];
-    let n = read_full(&rt, &mut input)?;
-    each(&rt, &input[..n])
 }

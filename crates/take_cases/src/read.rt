@@ -1,150 +1,63 @@
-// The values of a line: decimal numbers, and bytes in hexadecimal, where `(HEX*N)` is HEX repeated N times.
-ghost use Rattle.std.specs.Prelude.{◌≤◌, ◌<◌, length};
+// The words of a line: the call's name, and values with a name each: decimal numbers, and bytes in hexadecimal, where `(HEX*N)` is HEX
+// repeated N times. A line is bytes and need not be text.
+ghost use Rattle.std.specs.Prelude.{◌<◌};
 
-use crate::scan;
-use text::Class;
-
-const SPACE: u8 = b' ';
-
-const OPEN: u8 = b'(';
-
-const CLOSE: u8 = b')';
-
-const STAR: u8 = b'*';
-
-// `a` less this is ten.
-const TEN: u8 = b'a' - 10;
-
-// Whether a word begins with this name.
-fn begins(word: &[u8], name: &[u8]) -> bool {
-    text::same(text::part_of(word, 0, name.len()), name)
+// The call's name, the line's first word.
+pub fn name(line: &[u8]) -> &[u8] {
+    line.split(|b| *b == b' ').next().unwrap_or(b"")
 }
 
-// The value of the word with this name, or nothing where there is none.
-pub fn value<'a>(line: &'a [u8], name: &[u8]) -> &'a [u8] {
-    let mut i = 0;
-    while i < line.len() {
-        let e = scan::find(line, i, SPACE);
-        let word = &line[i..e];
-        if begins(word, name) {
-            return text::part_of(word, name.len(), word.len());
-        }
-        i = e + 1;
-    }
-    &line[0..0]
+// The value of the first word with this name, or nothing where there is none.
+pub fn value<'a>(line: &'a [u8], name: &str) -> &'a [u8] {
+    line.split(|b| *b == b' ')
+        .find_map(|word| word.strip_prefix(name.as_bytes()))
+        .unwrap_or(b"")
 }
 
-// What a digit says, decimal or hexadecimal; 0 for any other byte.
+// The number that the digits at the front spell, by its lowest 32 bits; 0 where there is no digit.
+pub fn number(value: &[u8]) -> u32 {
+    value.iter().map_while(|b| char::from(*b).to_digit(10)).fold(
+        0u32,
+        |sum, digit| sum.wrapping_mul(10).wrapping_add(digit),
+    )
+}
+
+// What a hexadecimal digit says; 0 for any other byte, a capital too.
 fn digit(b: u8) -> u8
     ensures { result < 16 }
 {
-    if text::in_class(Class::Digit, b) {
-        return b % 16;
+    match b {
+        b'0'..=b'9' => b - b'0',
+        b'a'..=b'f' => b - b'a' + 10,
+        _ => 0,
     }
-    if b'a' <= b {
-        if b <= b'f' {
-            return b - TEN;
+}
+
+// The bytes that pairs of digits spell, this many times at the front of `room`, which keeps the rest. A time that does not fit whole
+// is left out with those behind it, and so is a last digit that has no other.
+fn put_times(room: &mut &mut [u8], hex: &[u8], times: u32) {
+    let (pairs, _) = hex.as_chunks::<2>();
+    for _ in 0..times {
+        let Some(to) = room.split_off_mut(..pairs.len()) else {
+            return;
+        };
+        for (byte, [high, low]) in to.iter_mut().zip(pairs) {
+            *byte = digit(*high) * 16 + digit(*low);
         }
     }
-    0
 }
 
-// The number that the digits at the front spell: one of 32 bits, as all of a line are.
-pub fn number(s: &[u8]) -> u32 {
-    let n = text::run(s, Class::Digit);
-    let mut sum: u64 = 0;
-    let mut i = 0;
-    while i < n {
-        sum = (sum * 10 + digit(s[i]) as u64) % 4294967296;
-        i += 1;
+// The bytes of the value with this name, at the front of `out`.
+pub fn part<'a>(out: &'a mut [u8], line: &[u8], name: &str) -> &'a mut [u8] {
+    let mut room = &mut out[..];
+    // A piece is hexadecimal, or HEX*N, within brackets or not.
+    for piece in value(line, name).split(|b| matches!(*b, b'(' | b')')) {
+        let mut halves = piece.splitn(2, |b| *b == b'*');
+        let hex = halves.next().unwrap_or(b"");
+        let times = halves.next().map_or(1, number);
+        put_times(&mut room, hex, times);
     }
-    sum as u32
-}
-
-// A byte with one more digit behind those that it has: only the last two stay.
-fn with_digit(b: u8, d: u8) -> u8
-    requires { d < 16 }
-{
-    b % 16 * 16 + d
-}
-
-// The bytes that pairs of digits spell.
-fn put_digits(out: &mut [u8], hex: &[u8]) {
-    let mut i = 0;
-    while i < hex.len() {
-        let k = i / 2;
-        let byte = [with_digit(text::byte_of(&out[..], k), digit(hex[i]))];
-        text::put(&mut out[..], k, &byte);
-        i += 1;
-    }
-}
-
-// The same from `at` on, where they fit; the place behind them.
-fn put_hex(out: &mut [u8], at: usize, hex: &[u8]) -> usize
-    requires { at ≤ length out.old }
-    ensures { result ≤ length out.old }
-{
-    let n = hex.len() / 2;
-    if n <= out.len() - at {
-        let e = at + n;
-        put_digits(&mut out[at..e], hex);
-        return e;
-    }
-    at
-}
-
-// The same n times.
-fn put_times(out: &mut [u8], at: usize, hex: &[u8], n: u32) -> usize
-    requires { at ≤ length out.old }
-    ensures { result ≤ length out.old }
-{
-    let mut i = 0;
-    let mut e = at;
-    while i < n {
-        e = put_hex(&mut out[..], e, hex);
-        i += 1;
-    }
-    e
-}
-
-// What stands between two brackets: hexadecimal digits, or HEX*N.
-fn put_piece(out: &mut [u8], at: usize, piece: &[u8]) -> usize
-    requires { at ≤ length out.old }
-    ensures { result ≤ length out.old }
-{
-    let e = scan::find(piece, 0, STAR);
-    if e < piece.len() {
-        return put_times(&mut out[..], at, &piece[0..e], number(&piece[e + 1..]));
-    }
-    put_hex(&mut out[..], at, piece)
-}
-
-// The first bracket of either kind from i on, or the end.
-fn piece_end(s: &[u8], i: usize) -> usize
-    requires { i ≤ length s.now }
-    ensures { (i ≤ result) × (result ≤ length s.now) }
-{
-    let e = scan::find(s, i, CLOSE);
-    scan::find(&s[..e], i, OPEN)
-}
-
-// The bytes of a value at the front of out; how many there are.
-fn fill(out: &mut [u8], s: &[u8]) -> usize
-    ensures { result ≤ length out.old }
-{
-    let mut at = 0;
-    let mut i = 0;
-    while i <= s.len() {
-        let e = piece_end(s, i);
-        at = put_piece(&mut out[..], at, &s[i..e]);
-        i = e + 1;
-    }
-    at
-}
-
-// The same of the word with this name.
-pub fn part(out: &mut [u8], line: &[u8], name: &[u8]) -> usize
-    ensures { result ≤ length out.old }
-{
-    fill(&mut out[..], value(line, name))
+    let left = room.len();
+    let n = out.len().saturating_sub(left);
+    &mut out[..n]
 }

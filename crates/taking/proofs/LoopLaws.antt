@@ -1,22 +1,26 @@
--- The turns of the loops over the lines of a file, those that check and those that apply; what a good file gives them, the bound on
--- its lines, and what is returned at the end.
+-- The turns of the two loops over the lines of a file, the one that checks and the one that calls a step, and what the steps come to; what
+-- a good file gives them, the bound on its lines; and the count of the answers that are not 0.
 -- Assumes nothing.
+use Rattle.std.specs.Prelude.{Ok, Err}
+use Rattle.std.specs.Int.{from_bool}
 use mathlib.Core.Path.{◌≡◌, ◌∙◌, refl, sym, ap}
-use mathlib.Core.Bool.{true, false, ◌&&◌, cond}
+use mathlib.Core.Bool.{Bool, true, false, ◌&&◌, cond}
 use mathlib.Core.List.{List, [], ◌∷◌, ◌++◌, append_assoc}
-use Prim.Native.Nat.{ℕ, suc, ◌+◌, ◌-◌, ◌%◌, ◌≤◌, ◌<◌}
+use Prim.Native.Nat.{ℕ, zero, suc, ◌+◌, ◌-◌, ◌%◌, ◌≤◌, ◌<◌}
 use native.Mathlib.Numerals.{add-one}
 use native.Mathlib.Omega.{arith}
 use lib.Dec.{eqb, leb}
-use lib.ListN.{length, drop, get_or, set, length-append, length-drop}
+use lib.ListN.{length, drop, get_or, set, length-append}
 use lib.Seq.{drop-cons, set_at}
 use borrow.Author.Tests.{eq-eqb, ne_eqb, leb-true}
 use Rattle.layout.specs.declared.frame.Header.{Header}
 use Rattle.rules.specs.declared.Kind.{Kind}
-use Rattle.rules.specs.declared.Checked.TheVariants.{Good, Refused}
-use Rattle.rules.specs.Takes.{Stores, line_at, line_fault, lines_in, bad_line, lines_checked, line_applied, after, answer_at, answers_to, zeros_in, others_in, shape_of, edges, good_file, applied_file}
+use Rattle.layout.specs.declared.counter.Cycle.{Cycle}
+use Rattle.rules.proofs.GoodLaws.{good_file_lem}
+use Rattle.rules.specs.Takes.{Stores, checked, line_at, line_fault, lines_in, bad_line, lines_checked, line_applied, after, answer_at, answers_to, zeros_in, others_in, shape_of, edges, good_file}
 use Rattle.rules.proofs.WalkLaws.{Passed, find_hit, at_most_one}
 use Rattle.text.proofs.Laws.{and_right}
+use Rattle.taking.specs.Steps.{Stepped}
 use Rattle.rules.proofs.TakeLaws.{answers_length, zeros_more, zeros_others}
 
 -- ---- the checks: v is the fault of line i
@@ -27,67 +31,82 @@ module _ (k : Kind) (f : List ℕ) (n i v : ℕ) (e : v ≡ line_fault k (line_a
   bad_not z = rw (← e, eq-eqb v 0 z)
 
   pub lines_bad : (h : Header) → n ≡ lines_in k f → Passed (bad_line k f) n i → i < n → (v ≡ 0 → ⊥)
-      → Refused (record { number = 9; place = i + 1; position = v }) ≡ lines_checked k f h
+      → Err (record { number = 9; place = i + 1; position = v }) ≡ lines_checked k f h
   unfolding lines_checked bad_line
   lines_bad h l p t z = rw (← l, find_hit (bad_line k f) n i p.nothing (rw (← e, ne_eqb v 0 z)) t, e)
 
-pub lines_good : (k : Kind) (f : List ℕ) (n i : ℕ) (h : Header) → n ≡ lines_in k f → Passed (bad_line k f) n i → n ≤ i → Good h ≡ lines_checked k f h
+pub lines_good : (k : Kind) (f : List ℕ) (n i : ℕ) (h : Header) → n ≡ lines_in k f → Passed (bad_line k f) n i → n ≤ i
+    → Ok h ≡ lines_checked k f h
 unfolding lines_checked
 lines_good k f n i h l p t = let e : i ≡ n = omega (arith, p.within) in rw (← l, ← e, p.nothing)
 
--- ---- what is applied: after i lines
+-- ---- the loop that calls a step at each line
 
-pub count_zero : (done a m : ℕ) → a ≡ 0 → m ≡ done + 1 → m ≡ done + cond (eqb a 0) 1 0
-count_zero done a m z e = rw (eq-eqb a 0 z) e
+-- a test as a number
+one_if : (b : Bool) → from_bool b ≡ cond b 1 0
+one_if true = refl
+one_if false = refl
 
-pub count_other : (done a m : ℕ) → (a ≡ 0 → ⊥) → m ≡ done → m ≡ done + cond (eqb a 0) 1 0
-count_other done a m z e = rw (ne_eqb a 0 z) (omega arith)
+module _ {F : Type 0} (step : F → ℕ → ℕ → F → Type 0) (f : F) (old : List ℕ) (n : ℕ) where
+  -- after i lines: g is left of the step, and `done` of its answers are 0
+  pub record Answering (i : ℕ) (g : F) (answers : List ℕ) (done : ℕ) : Type 0 where
+    pub within : i ≤ n
+    pub given : List ℕ
+    pub stepped : Stepped step f i given g
+    pub long : length given ≡ i
+    pub answered : answers ≡ given ++ drop i old
+    pub counted : done ≡ zeros_in given
+    pub few : done ≤ i
 
-pub record Turned (k : Kind) (h : Header) (f : List ℕ) (s : Stores) (old : List ℕ) (n : ℕ) (t : Stores) (answers : List ℕ) (done i : ℕ) : Type 0 where
-  pub within : i ≤ n
-  pub room : n ≤ length old
-  pub stores : t ≡ after k h f s i
-  pub answered : answers ≡ answers_to k h f s i ++ drop i old
-  pub counted : done ≡ zeros_in (answers_to k h f s i)
-  pub few : done ≤ i
+  pub answering_none : Answering 0 f old 0
+  unfolding zeros_in
+  answering_none =
+      record {
+        within = omega arith;
+        given = [];
+        stepped = (refl, refl);
+        long = refl;
+        answered = refl;
+        counted = refl;
+        few = omega arith;
+      }
 
-module _ (k : Kind) (h : Header) (f : List ℕ) (s : Stores) (old : List ℕ) (n : ℕ) where
-  pub turned_none : n ≤ length old → Turned k h f s old n s old 0 0
-  unfolding after answers_to zeros_in
-  turned_none r = record { within = omega arith; room = r; stores = refl; answered = refl; counted = refl; few = omega arith }
+  pub answering_more : n ≤ length old → (i : ℕ) (e g : F) (answers : List ℕ) (done a m : ℕ) → Answering i e answers done
+      → i < n → step e i a g → m ≡ done + from_bool (eqb a 0) → Answering (i + 1) g (set answers i a) m
+  answering_more room i e g answers done a m u l p c =
+      let b : i < length old = omega (arith, room) in
+      record {
+        within = omega arith;
+        given = u.given ++ (a ∷ []);
+        stepped = rw (add-one i) (e, u.given, a, (u.stepped, (p, refl)));
+        long = rw (length-append, u.long) refl;
+        answered =
+            ap (λ (x : List ℕ). set x i a) (u.answered ∙ ap (λ (x : List ℕ). u.given ++ x) (drop-cons old i 0 b))
+            ∙ set_at u.given (get_or old i 0) (drop (suc i) old) a i u.long
+            ∙ sym (append_assoc u.given (a ∷ []) (drop (suc i) old))
+            ∙ rw (add-one i) refl;
+        counted = c ∙ rw (one_if (eqb a 0), u.counted) (sym (zeros_more u.given a));
+        few = omega (arith, at_most_one (eqb a 0), one_if (eqb a 0), u.few);
+      }
 
-  module _ (t : Stores) (answers : List ℕ) (done i : ℕ) (u : Turned k h f s old n t answers done i) where
-    pub turned_length : length answers ≡ length old
-    turned_length =
-        ap length u.answered
-        ∙ simp (length-append, length-drop, answers_length) (omega (arith, u.within, u.room))
+-- n steps apply the first n lines to the stores that a step holds, where each applies its line; Kept is what stays of the first one, f
+module _ {F : Type 0} (step : F → ℕ → ℕ → F → Type 0) (k : Kind) (h : Header) (file : List ℕ) (s : Stores) (held : F → Stores)
+    (Kept : F → F → Type 0) (f : F) where
+  -- g is left of e by a step that applied line i and answered a
+  pub record Applies (e g : F) (i a : ℕ) : Type 0 where
+    pub kept : Kept f g
+    pub answer : a ≡ (line_applied k h (line_at k file i) (held e)).answer
+    pub stores : held g ≡ (line_applied k h (line_at k file i) (held e)).stores
 
-    -- a is the answer to line i, t' the stores after it, m the zeros
-    pub turned_more : (a m : ℕ) (t' : Stores) → i < n → a ≡ (line_applied k h (line_at k f i) t).answer
-        → t' ≡ (line_applied k h (line_at k f i) t).stores → m ≡ done + cond (eqb a 0) 1 0
-        → Turned k h f s old n t' (set answers i a) m (i + 1)
-    unfolding after answers_to answer_at
-    turned_more a m t' l p q c =
-        let g : a ≡ answer_at k h f s i = p ∙ ap (λ (x : Stores). (line_applied k h (line_at k f i) x).answer) u.stores in
-        let b : i < length old = omega (arith, u.room) in
-        record {
-          within = omega arith;
-          room = u.room;
-          stores = rw (add-one i) (q ∙ ap (λ (x : Stores). (line_applied k h (line_at k f i) x).stores) u.stores);
-          answered =
-              ap (λ (x : List ℕ). set x i a) (u.answered ∙ ap (λ (x : List ℕ). answers_to k h f s i ++ x) (drop-cons old i 0 b))
-              ∙ set_at (answers_to k h f s i) (get_or old i 0) (drop (suc i) old) a i (answers_length k h f s i)
-              ∙ sym (append_assoc (answers_to k h f s i) (a ∷ []) (drop (suc i) old))
-              ∙ rw (add-one i, g);
-          counted = rw (add-one i) (c ∙ rw (u.counted, g) (sym (zeros_more (answers_to k h f s i) (answer_at k h f s i))));
-          few = omega (arith, at_most_one (eqb a 0), u.few);
-        }
-
-    -- all lines
-    pub turned_all : n ≤ i → (done ≡ zeros_in (answers_to k h f s n)) × ((t ≡ after k h f s n) × (answers ≡ answers_to k h f s n ++ drop n old))
-    turned_all l =
-        let e : i ≡ n = omega (arith, u.within) in
-        rw (← e) (u.counted, (u.stores, u.answered))
+  pub steps_apply : ((e g : F) (i a : ℕ) → Kept f e → step e i a g → Applies e g i a) → Kept f f → held f ≡ s
+      → (n : ℕ) (given : List ℕ) (g : F) → Stepped step f n given g
+      → Kept f g × ((given ≡ answers_to k h file s n) × (held g ≡ after k h file s n))
+  unfolding after answers_to answer_at
+  steps_apply each q p zero given g c = (rw c.1 q, (c.0, rw c.1 p))
+  steps_apply each q p (suc i) given g c =
+      let r = steps_apply each q p i c.1 c.0 c.3.0 in
+      let t = each c.0 g i c.2 r.0 c.3.1.0 in
+      (t.kept, (c.3.1.1 ∙ rw (r.1.0, t.answer, r.1.1) refl, t.stores ∙ rw r.1.1 refl))
 
 -- ---- what a good file gives the loop
 
@@ -98,13 +117,12 @@ good_lines k f e =
     (and_right (eqb ((length f - edges k) % (shape_of k).line) 0) (leb (lines_in k f) 9999)
     (and_right (leb (edges k) (length f)) (eqb ((length f - edges k) % (shape_of k).line) 0 && leb (lines_in k f) 9999) e))
 
--- what is returned of an applied file
-pub applied_is : (k : Kind) (h : Header) (s : Stores) (f answers : List ℕ) (n done : ℕ) → n ≡ lines_in k f → done ≡ zeros_in (answers_to k h f s n)
-    → record { refusal = 0; place = 0; position = 0; records = n; done = done; undone = n - done; last = h.cycle.0 }
-    ≡ (applied_file k h s f answers).result
-unfolding applied_file
-applied_is k h s f answers n done e d =
-    let l = zeros_others (answers_to k h f s n) in
-    let m = answers_length k h f s n in
-    let u : n - done ≡ others_in (answers_to k h f s n) = omega arith in
-    rw (← e, ← d, ← u)
+-- so do the checks that say good
+pub few_lines : (k : Kind) (s : Stores) (f : List ℕ) (room : ℕ) (last : Cycle) (h : Header) → checked k s f room last ≡ Ok h
+    → lines_in k f ≤ 9999
+few_lines k s f room last h e = good_lines k f (good_file_lem k s f room last h e).long
+
+-- the answers that are not 0 are the others
+pub undone_is : (k : Kind) (h : Header) (s : Stores) (f : List ℕ) (n done : ℕ) → done ≡ zeros_in (answers_to k h f s n)
+    → n - done ≡ others_in (answers_to k h f s n)
+undone_is k h s f n done d = omega (arith, zeros_others (answers_to k h f s n), answers_length k h f s n)

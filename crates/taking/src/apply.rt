@@ -1,5 +1,6 @@
 // The lines of a checked file, applied one after the other to what the earlier ones left.
-ghost use Rattle.std.specs.Prelude.{◌≡◌, ◌≤◌, length, drop, ◌++◌};
+ghost use Rattle.std.specs.Prelude.{ℕ, List, ◌≡◌, ◌≤◌, ◌<◌, length, drop, ◌++◌};
+ghost use Rattle.taking.specs.Steps.{Stepped};
 ghost use Rattle.rules.specs.declared.Kind.TheVariants.{Data, Guide};
 ghost use Rattle.rules.specs.Takes.{line_applied, after, answers_to, zeros_in};
 
@@ -9,6 +10,7 @@ use rules::Kind;
 use versions::Version;
 
 // A record, applied as one of Version 2: a record of Version 1 is widened first, into the only copy that is made of it.
+#[tactic(auto, unfolding(rules::specs::Takes::line_applied))]
 fn apply_line(version: Version, register: &mut [u8], guide: &[u8], h: Header, line: &[u8]) -> u8
     ensures { (result ≡ (line_applied (Data version) h line.now (record { register = register.old; guide = guide.now })).answer)
         × (register.new ≡ (line_applied (Data version) h line.now (record { register = register.old; guide = guide.now })).stores.register) }
@@ -16,10 +18,25 @@ fn apply_line(version: Version, register: &mut [u8], guide: &[u8], h: Header, li
     match version {
         Version::One => {
             let wide = versions::widened(line);
-            data_step::apply_record(&mut register[..], guide, h, &wide)
+            data_step::apply_record(register, guide, h, &wide)
         }
-        Version::Two => data_step::apply_record(&mut register[..], guide, h, line),
+        Version::Two => data_step::apply_record(register, guide, h, line),
     }
+}
+
+// Answer byte i is what `step` answers at line i; how many answers are 0.
+fn answer_lines<F: FnMut(usize) -> u8>(answers: &mut [u8], n: usize, step: &mut F) -> u32
+    requires callable { (f : F) (i : ℕ) → i < n → F.pre f i }
+    requires bounds { (n ≤ 9999) × (n ≤ length answers.old) }
+    ensures { (given : List ℕ) × (Stepped F.step step.old n given step.new × ((result ≤ n) × ((result ≡ zeros_in given) × (answers.new ≡ given ++ drop n answers.old)))) }
+{
+    let mut done: u32 = 0;
+    for i in 0..n {
+        let answer = step(i);
+        answers[i] = answer; // a line that is turned away changes this byte alone
+        done += u32::from(answer == 0);
+    }
+    done
 }
 
 // Answer byte i is written for record i; how many answers are 0.
@@ -37,23 +54,9 @@ pub fn apply_records(
         × ((register.new ≡ (after (Data version) h file.now (record { register = register.old; guide = guide.now }) n).register)
         × (answers.new ≡ answers_to (Data version) h file.now (record { register = register.old; guide = guide.now }) n ++ drop n answers.old))) }
 {
-    let mut done: u32 = 0;
-    let mut i: usize = 0;
-    while i < n {
-        let answer = apply_line(
-            version,
-            &mut register[..],
-            guide,
-            h,
-            checks::line_at(Kind::Data(version), file, i),
-        );
-        answers[i] = answer; // a record that is turned away changes this byte alone
-        if answer == 0 {
-            done += 1;
-        }
-        i += 1;
-    }
-    done
+    let kind = Kind::Data(version);
+    let mut step = |i| apply_line(version, register, guide, h, checks::line_at(kind, file, i));
+    answer_lines(answers, n, &mut step)
 }
 
 // The same for the rows of a guide file.
@@ -70,20 +73,11 @@ pub fn apply_rows(
         × ((guide.new ≡ (after Guide h file.now (record { register = register.now; guide = guide.old }) n).guide)
         × (answers.new ≡ answers_to Guide h file.now (record { register = register.now; guide = guide.old }) n ++ drop n answers.old))) }
 {
-    let mut done: u32 = 0;
-    let mut i: usize = 0;
-    while i < n {
-        let answer = row_step::apply_row(
-            register,
-            &mut guide[..],
-            h,
-            checks::line_at(Kind::Guide, file, i),
-        );
-        answers[i] = answer;
-        if answer == 0 {
-            done += 1;
-        }
-        i += 1;
-    }
-    done
+    let mut step = |i| row_step::apply_row(
+        register,
+        guide,
+        h,
+        checks::line_at(Kind::Guide, file, i),
+    );
+    answer_lines(answers, n, &mut step)
 }

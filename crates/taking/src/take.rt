@@ -3,21 +3,24 @@ ghost use Rattle.std.specs.Prelude.{◌≡◌, ◌≤◌, ◌-◌};
 ghost use Rattle.rules.specs.declared.Kind.TheVariants.{Data, Guide};
 ghost use Rattle.rules.specs.Takes.{TakesData, TakesGuide};
 ghost use Rattle.rules.specs.Checks.{Checks};
+ghost use Rattle.rules.specs.Refusing.{refusal_number, refusal_place, refusal_position};
 
 use crate::{apply, checks};
 use layout::counter::Cycle;
 use layout::frame::Header;
-use rules::{Checked, Kind, Refusal, Taken, refusing};
+use rules::refusing::Refused;
+use rules::{Kind, Taken, refusing};
 use versions::Version;
 
 // What a refused file returns.
-fn refused(r: Refusal, last: u32) -> Taken
-    ensures { result ≡ record { refusal = r.number; place = r.place; position = r.position; records = 0; done = 0; undone = 0; last = last } }
+fn refused(why: Refused, last: u32) -> Taken
+    ensures { result ≡ record { refusal = refusal_number why; place = refusal_place why; position = refusal_position why; records = 0; done = 0; undone = 0; last = last } }
 {
+    let told = why.told();
     Taken {
-        refusal: r.number,
-        place: r.place,
-        position: r.position,
+        refusal: told.number,
+        place: told.place,
+        position: told.position,
         records: 0,
         done: 0,
         undone: 0,
@@ -46,7 +49,6 @@ fn applied(h: Header, n: usize, done: u32) -> Taken
     requires { (n ≤ 9999) × (done ≤ n) }
     ensures { result ≡ record { refusal = 0; place = 0; position = 0; records = n; done = done; undone = n - done; last = h.cycle.0 } }
 {
-    let cycle = h.cycle;
     let records = n as u32;
     Taken {
         refusal: refusing::NONE,
@@ -55,19 +57,19 @@ fn applied(h: Header, n: usize, done: u32) -> Taken
         records,
         done,
         undone: records - done,
-        last: cycle.number(),
+        last: h.cycle.number(),
     }
 }
 
 // Checks a file of any kind. Of the answers only the length is looked at.
+#[tactic(auto, using(crate::proofs::LoopLaws::few_lines), unfolding(rules::specs::Checks::foretold, rules::specs::Takes::refused_file))]
 fn check(kind: Kind, register: &[u8], guide: &[u8], file: &[u8], answers: &[u8], last: u32) -> Taken
     ensures { Checks kind register.now guide.now file.now answers.now last result }
 {
-    let room = answers.len();
-    let checked = checks::check_file(kind, register, guide, file, room, Cycle::given(last));
-    match checked {
-        Checked::Refused(r) => refused(r, last),
-        Checked::Good(_) => passed(checks::lines_in(kind, file), last),
+    let given = Cycle::given(last);
+    match checks::check_file(kind, register, guide, file, answers.len(), given) {
+        Err(why) => refused(why, last),
+        Ok(_) => passed(checks::lines_in(kind, file), last),
     }
 }
 
@@ -93,6 +95,7 @@ pub fn check_guide(register: &[u8], guide: &[u8], file: &[u8], answers: &[u8], l
 }
 
 // Applies a data file: the guide is read, the register and the answers are written.
+#[tactic(auto, using(crate::proofs::LoopLaws::few_lines, rules::proofs::GoodLaws::good_room, crate::proofs::LoopLaws::undone_is), unfolding(rules::specs::Takes::taken, rules::specs::Takes::refused_file, rules::specs::Takes::applied_file))]
 pub fn apply_data(
     version: Version,
     register: &mut [u8],
@@ -103,34 +106,20 @@ pub fn apply_data(
 ) -> Taken
     ensures { TakesData version register.old guide.now file.now answers.old last result register.new answers.new }
 {
-    let room = answers.len();
-    let checked = checks::check_file(
-        Kind::Data(version),
-        &register[..],
-        guide,
-        file,
-        room,
-        Cycle::given(last),
-    );
-    match checked {
-        Checked::Refused(r) => refused(r, last),
-        Checked::Good(h) => {
-            let n = checks::lines_in(Kind::Data(version), file);
-            let done = apply::apply_records(
-                version,
-                &mut register[..],
-                guide,
-                file,
-                &mut answers[..],
-                h,
-                n,
-            );
+    let kind = Kind::Data(version);
+    let given = Cycle::given(last);
+    match checks::check_file(kind, register, guide, file, answers.len(), given) {
+        Err(why) => refused(why, last),
+        Ok(h) => {
+            let n = checks::lines_in(kind, file);
+            let done = apply::apply_records(version, register, guide, file, answers, h, n);
             applied(h, n, done)
         }
     }
 }
 
 // Applies a guide file: the register is read, the guide and the answers are written.
+#[tactic(auto, using(crate::proofs::LoopLaws::few_lines, rules::proofs::GoodLaws::good_room, crate::proofs::LoopLaws::undone_is), unfolding(rules::specs::Takes::taken, rules::specs::Takes::refused_file, rules::specs::Takes::applied_file))]
 pub fn apply_guide(
     register: &[u8],
     guide: &mut [u8],
@@ -140,20 +129,13 @@ pub fn apply_guide(
 ) -> Taken
     ensures { TakesGuide register.now guide.old file.now answers.old last result guide.new answers.new }
 {
-    let room = answers.len();
-    let checked = checks::check_file(
-        Kind::Guide,
-        register,
-        &guide[..],
-        file,
-        room,
-        Cycle::given(last),
-    );
-    match checked {
-        Checked::Refused(r) => refused(r, last),
-        Checked::Good(h) => {
-            let n = checks::lines_in(Kind::Guide, file);
-            let done = apply::apply_rows(register, &mut guide[..], file, &mut answers[..], h, n);
+    let kind = Kind::Guide;
+    let given = Cycle::given(last);
+    match checks::check_file(kind, register, guide, file, answers.len(), given) {
+        Err(why) => refused(why, last),
+        Ok(h) => {
+            let n = checks::lines_in(kind, file);
+            let done = apply::apply_rows(register, guide, file, answers, h, n);
             applied(h, n, done)
         }
     }

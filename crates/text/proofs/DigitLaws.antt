@@ -1,6 +1,7 @@
 -- Numbers in decimal, read back: what digits spell, how many a number has, that the first of them is no zero, and that what is written
 -- fills its field.
 -- Assumes nothing.
+use Rattle.std.specs.Prelude.{Some}
 use mathlib.Core.Path.{◌≡◌, refl, sym, ap, ◌∙◌}
 use mathlib.Core.Bool.{Bool, true, false, cond}
 use mathlib.Core.List.{List, [], ◌∷◌, ◌++◌}
@@ -10,12 +11,11 @@ use native.Mathlib.Omega.{arith}
 use lib.Dec.{leb, ltb, eqb}
 use lib.ListN.{length, get_or, length-append, length-replicate, get_or-append}
 use lib.Seq.{take_at, drop_at}
-use borrow.Author.Tests.{leb-true, ltb-true, ltb-false, le-leb, lt-ltb, ne_eqb}
+use borrow.Author.Tests.{leb-true, ltb-true, ltb-false, le-leb, le-ltb, lt-ltb, ne_eqb}
 use Rattle.text.specs.declared.Class.{Class}
 use Rattle.text.specs.declared.Class.TheVariants.{Space, Digit}
-use Rattle.text.specs.declared.Spelled.TheVariants.{Number}
 use Rattle.text.specs.Text.{in_class, all_in, blank, run_of, runs_of, digit_of, value_from, value_of, spelled, spaces, digits, width_in, width, among_spaces, left_digits, right_digits}
-use Rattle.text.proofs.Laws.{and_left, and_right}
+use Rattle.text.proofs.Laws.{and_left, and_right, small_power}
 
 -- ---- a class along a list
 
@@ -88,7 +88,7 @@ digits_value (suc w) n h =
 
 -- and are read back before spaces
 pub spelled_back : (low high w n m : ℕ) → low ≤ w → w ≤ high → high ≤ 9 → n < 10 ^ w
-    → spelled low high (digits w n ++ spaces m) ≡ Number n
+    → spelled low high (digits w n ++ spaces m) ≡ Some n
 unfolding spelled runs_of
 spelled_back low high w n m a b c h =
     let l = digits_length w n in
@@ -133,6 +133,15 @@ width_fits (suc k) n (suc w) a h = go (width_fits k (n / 10) w (omega arith) (te
     go : width_in k (n / 10) ≤ suc w → (b : Bool) → cond b 1 (suc (width_in k (n / 10))) ≤ suc (suc w)
     go ih true = omega arith
     go ih false = omega arith
+
+-- one more than the power of ten that it reaches
+pub width_is : (k n w : ℕ) → w ≤ k → 10 ^ w ≤ n → n < 10 * 10 ^ w → w + 1 ≡ width_in k n
+width_is zero n w a l h = omega arith
+width_is (suc k) n zero a l h = rw (lt-ltb n 10 h)
+width_is (suc k) n (suc w) a l h =
+    let e : 10 ^ suc w ≡ 10 ^ w * 10 = pow-suc 10 w in
+    let p : 1 ≤ 10 ^ w = small_power 0 w (omega arith) in
+    rw (le-ltb n 10 (omega arith), suc-add) (ap suc (width_is k (n / 10) w (omega arith) (omega arith) (omega arith)))
 
 -- the first of them is no zero
 pub width_first : (k n : ℕ) → 1 ≤ n → n < 10 ^ suc k → eqb (get_or (digits (width_in k n) n) 0 0) 48 ≡ false

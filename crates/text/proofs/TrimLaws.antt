@@ -1,16 +1,16 @@
--- A list without the spaces at its end: with as many spaces behind it is the list again; it ends at the last byte that is no space,
--- which is how a loop from the end finds it. Assumes nothing.
-use mathlib.Core.Path.{◌≡◌, refl, sym, ap, ◌∙◌}
+-- A list without the spaces at its end: with as many spaces behind it is the list again; what one byte more at the end makes of it.
+-- Assumes nothing.
+use mathlib.Core.Path.{◌≡◌, refl, sym, ap}
 use mathlib.Core.Bool.{Bool, true, false, cond}
 use mathlib.Core.List.{List, [], ◌∷◌, ◌++◌}
-use Prim.Native.Nat.{ℕ, zero, suc, ◌+◌, ◌-◌, ◌≤◌, ◌<◌}
+use Prim.Native.Nat.{ℕ, ◌-◌, ◌≤◌}
 use native.Mathlib.Omega.{arith}
 use native.Mathlib.Numerals.{unary_clauses}
 use lib.Dec.{eqb}
-use lib.ListN.{length, take, drop, get_or}
+use lib.ListN.{length}
 use borrow.Author.Tests.{eqb-true, eq-eqb, ne_eqb}
 use Rattle.text.specs.Text.{blank, trim_of, spaces}
-use Rattle.text.proofs.Laws.{and_left, and_right, left_at}
+use Rattle.text.proofs.Laws.{and_left, and_right, and_false}
 
 -- a blank list is spaces
 pub blank_is : (s : List ℕ) → blank s ≡ true → s ≡ spaces (length s)
@@ -38,34 +38,20 @@ trim_length (b ∷ s) = go (blank (b ∷ s)) (trim_length s)
     go true ih = omega arith
     go false ih = omega arith
 
--- a list of spaces has nothing left
-pub trim_none : (s : List ℕ) → blank s ≡ true → [] ≡ trim_of s
-trim_none [] z = refl
-trim_none (a ∷ s) z = rw z refl
+-- a space at its end counts for nothing
+blank_space : (s : List ℕ) {b : ℕ} → b ≡ 32 → blank (s ++ b ∷ []) ≡ blank s
+blank_space [] {b} e = rw (eq-eqb b 32 e)
+blank_space (a ∷ s) e = rw (blank_space s e)
 
--- it ends at its last byte that is no space: n bytes are left, and spaces behind them
-pub trim_at : (s : List ℕ) (n : ℕ) → n < length s → (get_or s n 0 ≡ 32 → ⊥) → blank (drop (suc n) s) ≡ true → trim_of s ≡ take (suc n) s
-trim_at [] n h e z = absurd (omega arith)
-trim_at (b ∷ s) zero h e z = rw (ne_eqb b 32 e) (ap (λ (x : List ℕ). b ∷ x) (sym (trim_none s z)))
-trim_at (b ∷ s) (suc n) h e z = go (blank (b ∷ s)) refl (trim_at s n (omega arith) e z)
-  where
-    not_blank : (s : List ℕ) (n : ℕ) → n < length s → (get_or s n 0 ≡ 32 → ⊥) → blank s ≡ true → ⊥
-    not_blank [] n h e z = omega arith
-    not_blank (a ∷ s) zero h e z = e (eqb-true a 32 (and_left (eqb a 32) (blank s) z))
-    not_blank (a ∷ s) (suc n) h e z = not_blank s n (omega arith) e (and_right (eqb a 32) (blank s) z)
+pub trim_space : (s : List ℕ) {b : ℕ} → b ≡ 32 → trim_of (s ++ b ∷ []) ≡ trim_of s
+trim_space [] {b} e = rw (eq-eqb b 32 e)
+trim_space (a ∷ s) e = rw (blank_space s e, trim_space s e)
 
-    go : (v : Bool) → blank (b ∷ s) ≡ v → trim_of s ≡ take (suc n) s → cond v [] (b ∷ trim_of s) ≡ b ∷ take (suc n) s
-    go true q ih = absurd (not_blank s n (omega arith) e (and_right (eqb b 32) (blank s) q))
-    go false q ih = ap (λ (x : List ℕ). b ∷ x) ih
+-- a list that ends in another byte is left whole
+blank_other : (s : List ℕ) {b : ℕ} → (b ≡ 32 → ⊥) → blank (s ++ b ∷ []) ≡ false
+blank_other [] {b} n = rw (ne_eqb b 32 n)
+blank_other (a ∷ s) n = rw (blank_other s n) (and_false (eqb a 32))
 
--- the loop from the end: one space more, and its two ends
-module _ (s : List ℕ) (n : ℕ) (l : n ≤ length s) (z : blank (drop n s) ≡ true) where
-  pub trim_more : 0 < n → get_or s (n - 1) 0 ≡ 32 → blank (drop (n - 1) s) ≡ true
-  trim_more h e =
-      let k : n - 1 + 1 ≡ n = omega arith in
-      ap blank (left_at s (n - 1) (omega arith)) ∙ rw (k, eq-eqb (get_or s (n - 1) 0) 32 e) z
-
-  pub trim_end : 0 < n → (get_or s (n - 1) 0 ≡ 32 → ⊥) → take n s ≡ trim_of s
-  trim_end h e =
-      let k : suc (n - 1) ≡ n = omega arith in
-      rw k at (sym (trim_at s (n - 1) (omega arith) e (rw (← k) at z)))
+pub trim_other : (s : List ℕ) {b : ℕ} → (b ≡ 32 → ⊥) → trim_of (s ++ b ∷ []) ≡ s ++ b ∷ []
+trim_other [] {b} n = rw (ne_eqb b 32 n)
+trim_other (a ∷ s) n = rw (blank_other s n, and_false (eqb a 32), trim_other s n)

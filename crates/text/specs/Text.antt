@@ -1,10 +1,8 @@
 -- Classes of bytes, what is read off a part of a line, and what is written into one.
 -- Assumes nothing.
-use Rattle.std.specs.Prelude.{ℕ, zero, suc, ◌+◌, ◌*◌, ◌-◌, ◌/◌, ◌%◌, List, [], ◌∷◌, ◌++◌, Bool, true, false, ◌&&◌, ◌||◌, not, cond, leb, ltb, eqb, length, take, drop, replicate}
+use Rattle.std.specs.Prelude.{ℕ, zero, suc, ◌+◌, ◌*◌, ◌-◌, ◌/◌, ◌%◌, List, [], ◌∷◌, ◌++◌, Bool, true, false, ◌&&◌, ◌||◌, not, cond, leb, ltb, eqb, length, take, drop, replicate, Option, Some, None}
 use Rattle.text.specs.declared.Class.{Class}
 use Rattle.text.specs.declared.Class.TheVariants.{Printable, Space, Digit, Capital, CapitalOrDigit, Unbarred}
-use Rattle.text.specs.declared.Spelled.{Spelled}
-use Rattle.text.specs.declared.Spelled.TheVariants.{Number, NoNumber}
 
 -- ---- classes
 
@@ -57,14 +55,14 @@ abbrev pub value_of : List ℕ → ℕ
 value_of s = value_from 0 s
 
 -- the number that from low to high digits spell, at most nine, with only spaces behind them
-unfoldable pub spelled : ℕ → ℕ → List ℕ → Spelled
+unfoldable pub spelled : ℕ → ℕ → List ℕ → Option ℕ
 spelled low high s =
-    cond (leb high 9 && runs_of Digit low high s) (Number (value_of (take (run_of Digit s) s))) NoNumber
+    cond (leb high 9 && runs_of Digit low high s) (Some (value_of (take (run_of Digit s) s))) None
 
--- what is made of the number, or what stands where there is none
-abbrev pub on_number : {A : Type 0} → Spelled → A → (ℕ → A) → A
-on_number (Number n) other k = k n
-on_number NoNumber other k = other
+-- what is made of the value, or what stands where there is none
+abbrev pub on_some : {A B : Type 0} → Option A → B → (A → B) → B
+on_some (Some x) other k = k x
+on_some None other k = other
 
 -- ---- two parts
 

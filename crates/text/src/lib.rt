@@ -2,7 +2,7 @@
 // the same, and what is written into a part. Each loop is written and proved once, and every other crate calls it.
 #![tactic(auto)]
 
-ghost use Rattle.std.specs.Prelude.{◌≡◌, [], ◌∷◌, ◌+◌, ◌≤◌, ◌<◌, ◌^◌, length, drop, get_or, replicate};
+ghost use Rattle.std.specs.Prelude.{◌≡◌, [], ◌∷◌, ◌+◌, ◌≤◌, ◌<◌, ◌^◌, length, get_or, replicate};
 ghost use Rattle.text.specs.Text.{in_class, all_in, all_equal, blank, run_of, runs_of, digit_of, value_of, spelled};
 ghost use Rattle.text.specs.Text.{same_bytes, member_of, all_of, trim_of, part, there, eight_same, put_at, digits, width, among_spaces, left_digits, right_digits};
 
@@ -21,11 +21,11 @@ pub fn in_class(k: Class, b: u8) -> bool
     ensures { result ≡ in_class k b }
 {
     match k {
-        Class::Printable => (b' ' <= b) & (b <= b'~'),
+        Class::Printable => b.is_ascii_graphic() | (b == b' '),
         Class::Space => b == b' ',
-        Class::Digit => (b'0' <= b) & (b <= b'9'),
-        Class::Capital => (b'A' <= b) & (b <= b'Z'),
-        Class::CapitalOrDigit => ((b'0' <= b) & (b <= b'9')) | ((b'A' <= b) & (b <= b'Z')),
+        Class::Digit => b.is_ascii_digit(),
+        Class::Capital => b.is_ascii_uppercase(),
+        Class::CapitalOrDigit => b.is_ascii_digit() | b.is_ascii_uppercase(),
         Class::Unbarred => b != b'|',
     }
 }
@@ -36,10 +36,8 @@ pub fn all_in(f: &[u8], k: Class) -> bool
     ensures { result ≡ all_in k f.now }
 {
     let mut all = true;
-    let mut i = 0;
-    while i < f.len() {
-        all = all & in_class(k, f[i]);
-        i += 1;
+    for c in f {
+        all &= in_class(k, *c);
     }
     all
 }
@@ -49,10 +47,8 @@ pub fn all_equal(f: &[u8], b: u8) -> bool
     ensures { result ≡ all_equal b f.now }
 {
     let mut all = true;
-    let mut i = 0;
-    while i < f.len() {
-        all = all & (f[i] == b);
-        i += 1;
+    for c in f {
+        all &= *c == b;
     }
     all
 }
@@ -62,51 +58,35 @@ pub fn all_equal(f: &[u8], b: u8) -> bool
 pub fn is_blank(f: &[u8]) -> bool
     ensures { result ≡ blank f.now }
 {
-    let n = f.len();
-    if n < 4 {
-        return all_in(f, Class::Space);
+    match f.len() {
+        n @ 4..=7 => all_in(&f[..4], Class::Space) & all_in(&f[n - 4..], Class::Space),
+        n @ 8..=15 => all_in(&f[..8], Class::Space) & all_in(&f[n - 8..], Class::Space),
+        _ => all_in(f, Class::Space),
     }
-    if n < 8 {
-        let last = n - 4;
-        return all_in(&f[0..4], Class::Space) & all_in(&f[last..n], Class::Space);
-    }
-    if n < 16 {
-        let last = n - 8;
-        return all_in(&f[0..8], Class::Space) & all_in(&f[last..n], Class::Space);
-    }
-    all_in(f, Class::Space)
 }
 
 // A byte as a number that has room for more.
 pub fn wide(b: u8) -> u32
     ensures { (result ≡ b) × (result ≤ 255) }
 {
-    b as u32
+    u32::from(b)
 }
 
 // Four spaces, as one word.
 const FOUR_SPACES: u32 = 0x20202020;
 
-// Whether four bytes are spaces. They are put together, so that they are compared as one word.
+// Whether four bytes are spaces, compared as one word.
 pub fn are_spaces(a: u8, b: u8, c: u8, d: u8) -> bool
     ensures { result ≡ blank (a ∷ (b ∷ (c ∷ (d ∷ [])))) }
 {
-    wide(a) + wide(b) * 256 + wide(c) * 65536 + wide(d) * 16777216 == FOUR_SPACES
+    u32::from_le_bytes([a, b, c, d]) == FOUR_SPACES
 }
 
 // How many bytes of the class it begins with.
 pub fn run(f: &[u8], k: Class) -> usize
     ensures { (result ≡ run_of k f.now) × (result ≤ length f.now) }
 {
-    let mut i = 0;
-    while i < f.len() {
-        if in_class(k, f[i]) {
-            i += 1;
-        } else {
-            return i;
-        }
-    }
-    i
+    f.iter().position(|b| !in_class(k, *b)).unwrap_or(f.len())
 }
 
 // Whether there are only spaces, byte by byte: behind a run there are few, too few for a loop with one way out.
@@ -117,26 +97,19 @@ fn is_rest_blank(f: &[u8]) -> bool
 }
 
 // From low to high bytes of the class, and then only spaces.
+#[tactic(auto, unfolding(crate::specs::Text::runs_of))]
 pub fn runs(f: &[u8], k: Class, low: usize, high: usize) -> bool
     ensures { result ≡ runs_of k low high f.now }
 {
     let n = run(f, k);
-    if n < low {
-        return false;
-    }
-    if high < n {
-        return false;
-    }
-    is_rest_blank(&f[n..])
+    (low..=high).contains(&n) && is_rest_blank(&f[n..])
 }
 
 fn digit(b: u8) -> u32
     ensures { (result ≡ digit_of b) × (result < 10) }
 {
-    if b'0' <= b {
-        if b <= b'9' {
-            return (b - b'0') as u32;
-        }
+    if b.is_ascii_digit() {
+        return u32::from(b - b'0');
     }
     0
 }
@@ -145,83 +118,44 @@ fn value(f: &[u8]) -> u32
     requires { length f.now ≤ 9 }
     ensures { (result ≡ value_of f.now) × (result < 10 ^ length f.now) }
 {
-    let mut n: u32 = 0;
-    let mut i = 0;
-    while i < f.len() {
-        n = n * 10 + digit(f[i]);
-        i += 1;
+    let mut n = 0;
+    for b in f {
+        n = n * 10 + digit(*b);
     }
     n
-}
-
-// What a field of digits spells: a number, or none.
-#[derive(Clone, Copy)]
-pub enum Spelled {
-    Number(u32),
-    NoNumber,
 }
 
 // No field has more digits, and so many fit 32 bits.
 const MOST_DIGITS: usize = 9;
 
 // The number that from low to high digits spell, with only spaces behind them; none where more than nine are asked for.
-pub fn number_in(f: &[u8], low: usize, high: usize) -> Spelled
+#[tactic(auto, unfolding(crate::specs::Text::spelled, crate::specs::Text::runs_of))]
+pub fn number_in(f: &[u8], low: usize, high: usize) -> Option<u32>
     ensures { result ≡ spelled low high f.now }
 {
     if MOST_DIGITS < high {
-        return Spelled::NoNumber;
+        return None;
     }
     let n = run(f, Class::Digit);
-    if n < low {
-        return Spelled::NoNumber;
+    if (low..=high).contains(&n) && is_rest_blank(&f[n..]) {
+        return Some(value(&f[..n]));
     }
-    if high < n {
-        return Spelled::NoNumber;
-    }
-    if is_rest_blank(&f[n..]) {
-        return Spelled::Number(value(&f[0..n]));
-    }
-    Spelled::NoNumber
+    None
 }
 
-// Whether eight bytes of each are the same. They are written out, so that they are compared as one word.
-fn is_word_same(a: &[u8], b: &[u8]) -> bool
-    requires { (length a.now ≡ 8) × (length b.now ≡ 8) }
-    ensures { result ≡ same_bytes a.now b.now }
-{
-    (a[0] == b[0])
-        & ((a[1] == b[1])
-            & ((a[2] == b[2])
-                & ((a[3] == b[3])
-                    & ((a[4] == b[4]) & ((a[5] == b[5]) & ((a[6] == b[6]) & (a[7] == b[7])))))))
-}
-
-// Whether the eight bytes from i on, which are there, are the same in both.
+// Whether the eight bytes from i on, which are there, are the same in both. Their number is known, so they are compared as one word.
 fn are_words_same(a: &[u8], b: &[u8], i: usize) -> bool
     requires { (i + 8 ≤ length a.now) × (i + 8 ≤ length b.now) }
     ensures { result ≡ same_bytes (part i 8 a.now) (part i 8 b.now) }
 {
-    let e = i + 8;
-    is_word_same(&a[i..e], &b[i..e])
-}
-
-// Whether the bytes from i on are the same, byte by byte.
-fn are_rest_same(a: &[u8], b: &[u8], i: usize) -> bool
-    requires { (i ≤ length a.now) × (length a.now ≡ length b.now) }
-    ensures { result ≡ same_bytes (drop i a.now) (drop i b.now) }
-{
-    let mut j = i;
-    while j < a.len() {
-        if a[j] == b[j] {
-            j += 1;
-        } else {
-            return false;
-        }
+    match (a[i..].first_chunk::<8>(), b[i..].first_chunk::<8>()) {
+        (Some(x), Some(y)) => x == y,
+        _ => false,
     }
-    true
 }
 
-// Whether two parts are the same bytes.
+// Whether two parts are the same bytes: by words, and byte by byte behind them. The library's `==` at slices takes twice as long at
+// the ten bytes of a number.
 pub fn same(a: &[u8], b: &[u8]) -> bool
     ensures { result ≡ same_bytes a.now b.now }
 {
@@ -231,113 +165,85 @@ pub fn same(a: &[u8], b: &[u8]) -> bool
     }
     let mut i = 0;
     while 8 <= n - i {
-        if are_words_same(a, b, i) {
-            i += 8;
-        } else {
+        if !are_words_same(a, b, i) {
             return false;
         }
+        i += 8;
     }
-    are_rest_same(a, b, i)
-}
-
-// Whether a byte is one of the set.
-pub fn member(set: &[u8], b: u8) -> bool
-    ensures { result ≡ member_of b set.now }
-{
-    let mut i = 0;
-    while i < set.len() {
-        if set[i] == b {
-            return true;
-        } else {
-            i += 1;
-        }
-    }
-    false
-}
-
-// Whether every byte is one of the set.
-pub fn all_of(f: &[u8], set: &[u8]) -> bool
-    ensures { result ≡ all_of set.now f.now }
-{
-    let mut i = 0;
-    while i < f.len() {
-        if member(set, f[i]) {
-            i += 1;
-        } else {
+    for j in i..n {
+        if a[j] != b[j] {
             return false;
         }
     }
     true
 }
 
+// Whether a byte is one of the set.
+pub fn member(set: &[u8], b: u8) -> bool
+    ensures { result ≡ member_of b set.now }
+{
+    set.contains(&b)
+}
+
+// Whether every byte is one of the set.
+pub fn all_of(f: &[u8], set: &[u8]) -> bool
+    ensures { result ≡ all_of set.now f.now }
+{
+    f.iter().all(|b| member(set, *b))
+}
+
 // Without the spaces at its end.
 pub fn trimmed(f: &[u8]) -> &[u8]
     ensures { result.now ≡ trim_of f.now }
 {
-    let mut n = f.len();
-    while 0 < n {
-        if f[n - 1] == b' ' {
-            n -= 1;
-        } else {
-            return &f[0..n];
+    let mut left = f;
+    while let Some((last, before)) = left.split_last() {
+        if *last != b' ' {
+            return left;
         }
+        left = before;
     }
-    &f[0..0]
+    left
 }
 
 // The n bytes from i, or as many of them as there are.
 pub fn part_of(s: &[u8], i: usize, n: usize) -> &[u8]
     ensures { result.now ≡ part i n s.now }
 {
-    if i <= s.len() {
-        if n <= s.len() - i {
-            let e = i + n;
-            return &s[i..e];
-        }
-        return &s[i..];
-    }
-    &s[0..0]
+    let rest = s.get(i..).unwrap_or(&[]);
+    rest.get(..n).unwrap_or(rest)
 }
 
 // Whether the n bytes from i on are there.
 pub fn is_there(s: &[u8], i: usize, n: usize) -> bool
     ensures { result ≡ there i n s.now }
 {
-    if i <= s.len() {
-        return n <= s.len() - i;
-    }
-    false
+    i <= s.len() && n <= s.len() - i
 }
 
 // Whether the eight bytes from i on are there, and the same in both: one look at a word, so short that a walk takes it into its loop.
+#[tactic(auto, unfolding(crate::specs::Text::eight_same))]
 pub fn are_eight_same(a: &[u8], b: &[u8], i: usize) -> bool
     ensures { result ≡ eight_same i a.now b.now }
 {
-    if is_there(a, i, 8) & is_there(b, i, 8) {
-        return are_words_same(a, b, i);
-    }
-    false
+    is_there(a, i, 8) && is_there(b, i, 8) && are_words_same(a, b, i)
 }
 
 // The byte at i, or 0 where there is none.
 pub fn byte_of(s: &[u8], i: usize) -> u8
     ensures { result ≡ get_or s.now i 0 }
 {
-    if i < s.len() {
-        return s[i];
-    }
-    0
+    s.get(i).copied().unwrap_or(0)
 }
 
 // The bytes of b over those of s from i on, where they fit.
+#[tactic(auto, unfolding(crate::specs::Text::put_at))]
 pub fn put(s: &mut [u8], i: usize, b: &[u8])
     ensures { s.new ≡ put_at i b.now s.old }
 {
-    if i <= s.len() {
-        if b.len() <= s.len() - i {
-            let e = i + b.len();
-            s[i..e].copy_from_slice(b);
-        }
+    if is_there(s, i, b.len()) {
+        let e = i + b.len();
+        s[i..e].copy_from_slice(b);
     }
 }
 
@@ -345,40 +251,29 @@ pub fn put(s: &mut [u8], i: usize, b: &[u8])
 pub fn fill(s: &mut [u8], b: u8)
     ensures { s.new ≡ replicate (length s.old) b }
 {
-    let mut i = 0;
-    while i < s.len() {
-        s[i] = b;
-        i += 1;
-    }
+    s.fill(b);
 }
 
-// The digit 0, as a number to which a digit's value is added.
-const ZERO: u32 = b'0' as u32;
-
-// The last digits of n, as many as there are bytes.
+// The last digits of n, as many as there are bytes; by index, as of `iter_mut().rev()` no byte is known afterwards.
 fn put_digits(s: &mut [u8], n: u32)
     ensures { s.new ≡ digits (length s.old) n }
 {
     let mut m = n;
-    let mut i = s.len();
-    while 0 < i {
-        i -= 1;
-        s[i] = (ZERO + m % 10) as u8;
-        m = m / 10;
+    for i in (0..s.len()).rev() {
+        s[i] = b'0' + (m % 10) as u8;
+        m /= 10;
     }
 }
 
 // How many digits n has, without a leading zero; zero has one.
+#[tactic(auto, unfolding(crate::specs::Text::width))]
 fn width_of(n: u32) -> usize
     ensures { (result ≡ width n) × (result ≤ 10) }
 {
-    let mut m = n;
-    let mut w = 1;
-    while 10 <= m {
-        m = m / 10;
-        w += 1;
+    match n.checked_ilog10() {
+        Some(most) => most as usize + 1,
+        None => 1,
     }
-    w
 }
 
 // Spaces, but for the last w digits of n from a on.
@@ -386,9 +281,8 @@ fn put_among_spaces(s: &mut [u8], a: usize, w: usize, n: u32)
     requires { a + w ≤ length s.old }
     ensures { s.new ≡ among_spaces a w n (length s.old) }
 {
-    let e = a + w;
-    fill(&mut s[..], b' ');
-    put_digits(&mut s[a..e], n);
+    fill(s, b' ');
+    put_digits(&mut s[a..a + w], n);
 }
 
 // n in decimal with no leading zero, and spaces behind; unchanged where it does not fit.
@@ -397,7 +291,7 @@ pub fn put_left(s: &mut [u8], n: u32)
 {
     let w = width_of(n);
     if w <= s.len() {
-        put_among_spaces(&mut s[..], 0, w, n);
+        put_among_spaces(s, 0, w, n);
     }
 }
 
@@ -408,18 +302,17 @@ pub fn put_right(s: &mut [u8], n: u32)
     let w = width_of(n);
     if w <= s.len() {
         let a = s.len() - w;
-        put_among_spaces(&mut s[..], a, w, n);
+        put_among_spaces(s, a, w, n);
     }
 }
 
 // The number that two digits spell, as number_in reads a field of two bytes. Every date is three of them.
-pub fn two_digits(a: u8, b: u8) -> Spelled
+#[tactic(auto, unfolding(crate::specs::Text::spelled, crate::specs::Text::runs_of))]
+pub fn two_digits(a: u8, b: u8) -> Option<u32>
     ensures { result ≡ spelled 2 2 (a ∷ (b ∷ [])) }
 {
-    if in_class(Class::Digit, a) {
-        if in_class(Class::Digit, b) {
-            return Spelled::Number(digit(a) * 10 + digit(b));
-        }
+    if a.is_ascii_digit() && b.is_ascii_digit() {
+        return Some(digit(a) * 10 + digit(b));
     }
-    Spelled::NoNumber
+    None
 }

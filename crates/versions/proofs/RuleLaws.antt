@@ -2,6 +2,7 @@
 -- (`passes`), whose fault is 0 or the field's position (fault_alone); and that test says the same of the field of Version 1 and of the
 -- same field of Version 2 (passes_wide): they are the same bytes, or the rule is one that blanks behind do not break.
 -- Assumes nothing.
+use Rattle.std.specs.Prelude.{Option, Some, None}
 use mathlib.Core.Path.{◌≡◌, refl, sym, ap, ◌∙◌}
 use mathlib.Core.Bool.{Bool, true, false, ◌&&◌, ◌||◌, not, cond}
 use mathlib.Core.List.{List, [], ◌∷◌, ◌++◌}
@@ -12,9 +13,7 @@ use lib.ListN.{length}
 use borrow.Author.Tests.{eqb-true, leb-true, ltb-true, eq-eqb, ne_eqb, not-true}
 use Rattle.text.specs.declared.Class.{Class}
 use Rattle.text.specs.declared.Class.TheVariants.{Printable, Space}
-use Rattle.text.specs.declared.Spelled.{Spelled}
-use Rattle.text.specs.declared.Spelled.TheVariants.{Number, NoNumber}
-use Rattle.text.specs.Text.{in_class, all_in, all_of, blank, run_of, spaces, on_number}
+use Rattle.text.specs.Text.{in_class, all_in, all_of, blank, run_of, spaces, on_some}
 use Rattle.text.proofs.Laws.{and_left, and_right, and_false, or_right}
 use Rattle.text.proofs.DigitLaws.{blank_spaces}
 use Rattle.layout.specs.Tables.{free, left_text, named, code, house, low_end, high_end, parity_letter, first_code}
@@ -26,8 +25,8 @@ use Rattle.versions.proofs.TableLaws.{filled_length, filled_whole}
 
 -- ---- the test of a rule that looks at its own field alone
 
-abbrev is_number : Spelled → Bool
-is_number x = on_number x false (λ n. true)
+abbrev is_number : Option ℕ → Bool
+is_number x = on_some x false (λ n. true)
 
 abbrev keeps_alone : ℕ → Bool → List ℕ → Bool
 keeps_alone r lax f = cond (eqb r house) (is_number (house_in f)) (cond (eqb r low_end) (is_number (end_in f)) (keeps r lax f))
@@ -48,9 +47,9 @@ fault_alone at n r lax s f a =
     let p = not-true (eqb r parity_letter) (and_right (not (eqb r high_end)) (not (eqb r parity_letter)) a) in
     rw (h, p) (go (is_whole n f) (eqb r house) (eqb r low_end))
   where
-    number : (x : Spelled) → on_number x at (λ n. 0) ≡ cond (is_number x) 0 at
-    number (Number n) = refl
-    number NoNumber = refl
+    number : (x : Option ℕ) → on_some x at (λ n. 0) ≡ cond (is_number x) 0 at
+    number (Some n) = refl
+    number None = refl
 
     go : (w x y : Bool) → cond w (cond x (house_fault at f) (cond y (end_fault at f) (cond (keeps r lax f) 0 at))) at
         ≡ cond (w && cond x (is_number (house_in f)) (cond y (is_number (end_in f)) (keeps r lax f))) 0 at

@@ -5,20 +5,21 @@
 use mathlib.Core.Path.{◌≡◌, refl, sym, ap, ◌∙◌}
 use mathlib.Core.Bool.{Bool, true, false, ◌&&◌, ◌||◌}
 use mathlib.Core.List.{List, [], ◌∷◌, ◌++◌, append-nil, append_assoc}
-use Prim.Native.Nat.{ℕ, zero, suc, ◌+◌, ◌-◌, ◌≤◌, ◌<◌}
+use Prim.Native.Nat.{ℕ, zero, suc, ◌+◌, ◌-◌, ◌≤◌, ◌<◌, min}
 use native.Mathlib.Omega.{arith}
 use native.Mathlib.Decide.{dec_lt}
-use native.Mathlib.Nat.{sub-zero}
-use native.Mathlib.Numerals.{add-one}
-use lib.Dec.{ltb, eqb}
+use lib.Dec.{leb, ltb, eqb}
 use lib.ListN.{length, take, drop, get_or, length-append, length-take, length-replicate, replicate-append-replicate}
 use lib.Seq.{take_at, drop_at, take-add}
-use borrow.Author.Tests.{eqb-true, ltb-true, le-leb}
+use borrow.Author.Tests.{eqb-true, leb-true, ltb-true, le-leb}
 use Rattle.text.specs.Text.{part, put_at, spaces}
 use Rattle.text.proofs.Laws.{and_left, and_right}
 use Rattle.layout.specs.Tables.{code, first_code, data_record, narrow_record, start_of, size_of, field}
 use Rattle.layout.proofs.LineLaws.{part_long}
-use Rattle.versions.specs.Versions.{fields, rule_of, all_to, end_of, begins, trails, alone, shares_rule, shares}
+use Rattle.versions.specs.declared.Version.{Version}
+use Rattle.versions.specs.declared.Version.TheVariants.{One, Two}
+use Rattle.versions.specs.Versions.{table_of, move_to, moved, widened, narrowed}
+use Rattle.versions.specs.Versions.{fields, position_of, rule_of, all_to, end_of, begins, trails, alone, shares_rule, shares}
 use Rattle.versions.specs.Versions.{filled, widen_to, narrow_to}
 use Rattle.versions.specs.Versions.{data_begins, narrow_begins, data_ends, same_fields}
 
@@ -33,7 +34,15 @@ all_to_lem p (suc n) k h l = go (λ m. all_to_lem p n k (and_left (all_to p n) (
     go ih (yes m) = ih m
     go ih (no m) = let e : k ≡ n = omega arith in rw e (and_right (all_to p n) (p n) h)
 
--- the numbers of n fields from field j on in a row, as the code has them; number k of all fields is that of field k
+-- positions count from 1
+pub placed : (v : Version) (k : ℕ) → k < fields → 1 ≤ position_of (table_of v) k
+placed v k l = leb-true 1 (position_of (table_of v) k) (all_to_lem (λ k. leb 1 (position_of (table_of v) k)) fields k (all v) l)
+  where
+    all : (v : Version) → all_to (λ k. leb 1 (position_of (table_of v) k)) fields ≡ true
+    all One = refl
+    all Two = refl
+
+-- the numbers of n fields from field j on in a row; number k of all fields is that of field k
 abbrev pub in_row : (ℕ → ℕ) → ℕ → ℕ → List ℕ
 in_row f zero j = []
 in_row f (suc n) j = f j ∷ in_row f n (suc j)
@@ -60,7 +69,8 @@ end_within t k (suc n) l = go (λ m. end_within t k n m) (dec_lt k n)
     go ih (yes m) = omega (arith, ih m)
     go ih (no m) = let e : k ≡ n = omega arith in rw e (omega arith)
 
-field_within : (t : List ℕ) → all_to (begins t) fields ≡ true → (k : ℕ) → k < fields → start_of t k + size_of t k ≤ end_of t fields
+field_within : (t : List ℕ) → all_to (begins t) fields ≡ true → (k : ℕ) → k < fields
+    → start_of t k + size_of t k ≤ end_of t fields
 field_within t b k l = rw (starts t b k l) (end_within t k fields l)
 
 -- so the first n bytes of it are there, in a record that has all fields
@@ -93,15 +103,11 @@ pub shorter : (k : ℕ) → k < fields → size_of narrow_record k ≤ size_of d
 shorter k l =
     no_longer (size_of data_record k) (rule_of data_record k) (size_of narrow_record k) (rule_of narrow_record k) (rule_shared k l).1
 
--- where a field's bytes of Version 1 end in Version 2, as the code comes by it
-module _ (k : ℕ) {m : ℕ} (l : k < fields) (p : m ≡ size_of narrow_record k) where
-  pub tail_start : {a : ℕ} → a ≡ start_of data_record k → a + m ≤ 512
-  tail_start q =
-      let e = data_ends in
-      omega (arith, p, q, shorter k l, field_within data_record data_begins k l)
-
-  pub tail_size : {n : ℕ} → n ≡ size_of data_record k → m ≤ n
-  tail_size q = omega (arith, p, q, shorter k l)
+-- where a field's bytes of Version 1 end in Version 2
+pub tail_start : (k : ℕ) → k < fields → start_of data_record k + size_of narrow_record k ≤ 512
+tail_start k l =
+    let e = data_ends in
+    omega (arith, shorter k l, field_within data_record data_begins k l)
 
 -- ---- a field, blanks behind
 
@@ -178,7 +184,7 @@ module _ {t : List ℕ} {w y : ℕ → List ℕ} (v : Written t w y) where
       rw (v.more k, same k l, written_back r same k (omega arith), e) (sym (take-add (end_of t k) (size_of t k) r))
 
   -- field k put over the blanks behind the first k fields, in a record of m bytes
-  written_put : (k m : ℕ) → k < fields → end_of t fields ≡ m → {out : List ℕ} → out ≡ w k ++ spaces (m - end_of t k)
+  pub written_put : (k m : ℕ) → k < fields → end_of t fields ≡ m → {out : List ℕ} → out ≡ w k ++ spaces (m - end_of t k)
       → put_at (start_of t k) (y k) out ≡ w (suc k) ++ spaces (m - end_of t (suc k))
   unfolding end_of
   written_put k m l e inv =
@@ -187,38 +193,11 @@ module _ {t : List ℕ} {w y : ℕ → List ℕ} (v : Written t w y) where
       let b : end_of t k + size_of t k ≤ m = omega (arith, end_within t k fields l) in
       rw (v.more k, inv, i) (put_filled (w k) (y k) (end_of t k) (size_of t k) m a (v.fits k l) b)
 
--- ---- the loop that writes one: the first k fields in m bytes, and blanks
-
-pub record Filling (t : List ℕ) (w : ℕ → List ℕ) (m k : ℕ) (out : List ℕ) : Type 0 where
-  pub within : k ≤ fields
-  pub long : length out ≡ m
-  pub bytes : out ≡ w k ++ spaces (m - end_of t k)
-
-module _ {t : List ℕ} {w y : ℕ → List ℕ} (v : Written t w y) (m : ℕ) (all : end_of t fields ≡ m) where
-  -- none yet: all is blank
-  pub filling_none : Filling t w m 0 (spaces m)
-  unfolding end_of
-  filling_none = record { within = omega arith; long = length-replicate m 32; bytes = rw (v.none, sub-zero) refl }
-
-  -- one field more, put where the table says
-  pub filling_more : (k : ℕ) (out : List ℕ) {i : ℕ} {f new : List ℕ} → Filling t w m k out → k < fields → i ≡ start_of t k → f ≡ y k
-      → new ≡ put_at i f out → Filling t w m (k + 1) new
-  unfolding end_of
-  filling_more k out {new = new} g l p q e =
-      let b : new ≡ w (suc k) ++ spaces (m - end_of t (suc k)) = rw (e, p, q) (written_put v k m l all g.bytes) in
-      let h = end_within t k fields l in
-      record {
-        within = omega arith;
-        long = ap length b ∙ rw (length-append, length-replicate, written_length v (suc k) l) (omega arith);
-        bytes = rw (add-one k) b;
-      }
-
-  -- all fields
-  pub filling_all : (k : ℕ) {out : List ℕ} → Filling t w m k out → fields ≤ k → out ≡ w fields
-  filling_all k g l =
-      let z : k ≡ fields = omega (arith, g.within) in
-      let n : m - end_of t fields ≡ 0 = omega arith in
-      g.bytes ∙ rw (z, n, append-nil) refl
+  -- a record written with the same fields is the same
+  pub written_same : {w' y' : ℕ → List ℕ} → Written t w' y' → ((k : ℕ) → k < fields → y k ≡ y' k)
+      → (k : ℕ) → k ≤ fields → w k ≡ w' k
+  written_same o same zero l = v.none ∙ sym o.none
+  written_same o same (suc k) l = rw (v.more k, o.more k, same k l, written_same o same k (omega arith)) refl
 
 -- ---- the two of them
 
@@ -232,7 +211,8 @@ wide_written r =
       fits = λ k l. rw length-take (omega (arith, shorter k l));
     }
 
-pub narrow_written : (r : List ℕ) → Written narrow_record (narrow_to r) (λ k. part (start_of data_record k) (size_of narrow_record k) r)
+pub narrow_written : (r : List ℕ)
+    → Written narrow_record (narrow_to r) (λ k. part (start_of data_record k) (size_of narrow_record k) r)
 unfolding narrow_to
 narrow_written r =
     record {
@@ -241,3 +221,37 @@ narrow_written r =
       more = λ k. refl;
       fits = λ k l. rw length-take (omega arith);
     }
+
+-- ---- and both, from one version to another
+
+pub moved_written : (v u : Version) (r : List ℕ)
+    → Written (table_of u) (move_to (table_of v) (table_of u) r)
+    (λ k. part (start_of (table_of v) k) (min (size_of (table_of v) k) (size_of (table_of u) k)) r)
+unfolding move_to
+moved_written v u r =
+    record {
+      begun = begun u;
+      none = refl;
+      more = λ k. refl;
+      fits = λ k l. rw length-take (omega arith);
+    }
+  where
+    begun : (u : Version) → all_to (begins (table_of u)) fields ≡ true
+    begun One = narrow_begins
+    begun Two = data_begins
+
+pub moved_wide : (r : List ℕ) → moved narrow_record data_record r ≡ widened r
+unfolding widened
+moved_wide r =
+    let same = λ (k : ℕ) (l : k < fields).
+    let e : min (size_of narrow_record k) (size_of data_record k) ≡ size_of narrow_record k = omega (arith, shorter k l) in
+    ap (λ n. part (start_of narrow_record k) n r) e in
+    written_same (moved_written One Two r) (wide_written r) same fields (omega arith)
+
+pub moved_narrow : (r : List ℕ) → moved data_record narrow_record r ≡ narrowed r
+unfolding narrowed
+moved_narrow r =
+    let same = λ (k : ℕ) (l : k < fields).
+    let e : min (size_of data_record k) (size_of narrow_record k) ≡ size_of narrow_record k = omega (arith, shorter k l) in
+    ap (λ n. part (start_of data_record k) n r) e in
+    written_same (moved_written Two One r) (narrow_written r) same fields (omega arith)

@@ -1,6 +1,7 @@
 -- 2026-01: the data record of Version 1 (document 003, Exhibit 1) beside that of Version 2: the same fields in the same order, some
 -- shorter, some of no bytes. A record is widened to Version 2, narrowed to Version 1, and its first fault stays. Assumes nothing.
-use Rattle.std.specs.Prelude.{ℕ, zero, suc, ◌+◌, ◌*◌, ◌-◌, ◌≡◌, refl, List, [], ◌∷◌, ◌++◌, Bool, true, false, ◌&&◌, ◌||◌, not, cond, leb, ltb, eqb, length, get_or}
+use Rattle.std.specs.Prelude.{ℕ, zero, suc, ◌+◌, ◌*◌, ◌-◌, ◌≡◌, refl, min, length, get_or}
+use Rattle.std.specs.Prelude.{List, [], ◌∷◌, ◌++◌, Bool, true, false, ◌&&◌, ◌||◌, not, cond, leb, ltb, eqb}
 use Rattle.text.specs.Text.{member_of, blank, part, spaces}
 use Rattle.layout.specs.Tables.{free, left_text, named, code, first_code, high_end, parity_letter}
 use Rattle.layout.specs.Tables.{data_record, narrow_record, start_of, size_of, field}
@@ -51,6 +52,11 @@ pub narrow_ends : end_of narrow_record fields ≡ 240
 unfolding end_of
 narrow_ends = refl
 
+-- the table of a version
+abbrev pub table_of : Version → List ℕ
+table_of One = narrow_record
+table_of Two = data_record
+
 -- "same fields": none is longer in Version 1, and each has the same rule but for the codes. Where it is shorter, the rule is one that
 -- blanks behind do not break, and each rule looks at its own field alone
 abbrev pub trails : ℕ → ℕ → Bool
@@ -91,6 +97,14 @@ narrow_to r (suc k) = narrow_to r k ++ filled (size_of narrow_record k) (part (s
 
 unfoldable pub narrowed : List ℕ → List ℕ
 narrowed r = narrow_to r fields
+
+-- either, from the table t to the table u: of each field the bytes that both have
+unfoldable pub move_to : List ℕ → List ℕ → List ℕ → ℕ → List ℕ
+move_to t u r zero = []
+move_to t u r (suc k) = move_to t u r k ++ filled (size_of u k) (part (start_of t k) (min (size_of t k) (size_of u k)) r)
+
+abbrev pub moved : List ℕ → List ℕ → List ℕ → List ℕ
+moved t u r = move_to t u r fields
 
 -- 27: "if a Version 2 field or the tail of a longer field isn't blank": field k has nothing behind the bytes that Version 1 has of it
 unfoldable pub tail_blank : List ℕ → ℕ → Bool

@@ -1,6 +1,7 @@
 -- The tagged record is not empty: a text with every label, in the exhibit's order, is read as the record with those fields, and that
 -- record is written as the text. It alone tells the letters of each label and their order. What `reads_back`, `one_form`, `any_order`,
 -- `reads_good`, `in_file`, `reads_writable` and `names_pair` ask for is met. All is computed. Assumes nothing.
+use Rattle.std.specs.Prelude.{Ok}
 use mathlib.Core.Path.{◌≡◌, refl, sym, ap, ◌∙◌}
 use mathlib.Core.List.{List, [], ◌∷◌, ◌++◌}
 use Prim.Native.Nat.{ℕ, ◌-◌}
@@ -14,7 +15,6 @@ use Rattle.layout.specs.Fields.{function_of}
 use Rattle.layout.specs.Rules.{record_fault, fault_in, fault_by, is_whole, keeps, keeps_other, house_fault, is_direction, is_date}
 use Rattle.versions.specs.declared.Version.TheVariants.{Two}
 use Rattle.rules.specs.declared.Kind.TheVariants.{Data}
-use Rattle.rules.specs.declared.Checked.TheVariants.{Good}
 use Rattle.rules.specs.Walks.{first, find}
 use Rattle.rules.specs.Takes.{lines_in, line_at, lines_checked}
 use Rattle.tag_rules.specs.Forms.{spread, worded, filled, formed, fits}
@@ -145,7 +145,7 @@ unfolding ReadsWritable
 writable = reads_writable full (zeros 452) was_read (omega arith)
 
 -- the record between header and trailer, whatever they are
-pub filed : (h : Header) → lines_checked (Data Two) (zeros 200 ++ (full ++ zeros 200)) h ≡ Good h
+pub filed : (h : Header) → lines_checked (Data Two) (zeros 200 ++ (full ++ zeros 200)) h ≡ Ok h
 unfolding InFile lines_in line_at
 filed h = in_file (zeros 200 ++ (full ++ zeros 200)) h (λ i l. let z : i ≡ 0 = omega arith in rw z was_read)
 

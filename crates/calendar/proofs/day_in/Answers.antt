@@ -11,46 +11,43 @@ pub returns-then-f-ne-DATE_SIZE : goal.returns-then-f-ne-DATE_SIZE
 unfolding day_of
 returns-then-f-ne-DATE_SIZE c = (rw (ne_eqb _ _ c.if-f-ne-DATE_SIZE.true), refl)
 
-pub returns-in_default : goal.returns-in_default
+pub returns-in_err-m : goal.returns-in_err-m
 unfolding day_of
-returns-in_default c =
+returns-in_err-m c =
     let l = c.if-f-ne-DATE_SIZE.false in
     let f = c.args.f.now in
-    (rw (eq-eqb _ _ l, two_part f 0 (omega (arith, l)), ← c.two_digits.ensures, c.in_default.is), refl)
+    rw c.from_residual.ensures (rw (eq-eqb _ _ l, two_part f 0 (omega (arith, l)), ← c.in_err-m.ensures), refl)
 
-pub returns-in_default-two_digits : goal.returns-in_default-two_digits
+pub returns-in_err-d : goal.returns-in_err-d
 unfolding day_of
-returns-in_default-two_digits c =
+returns-in_err-d c =
     let l = c.if-f-ne-DATE_SIZE.false in
-    let f = c.args.f.now in (
+    let f = c.args.f.now in
+    rw c.from_residual-in_err-d.ensures (
       rw (
         eq-eqb _ _ l,
         two_part f 0 (omega (arith, l)),
-        ← c.two_digits.ensures,
-        c.in-Number.is,
+        ← c.in_ok-m.ensures,
         two_part f 2 (omega (arith, l)),
-        ← c.two_digits-2.ensures,
-        c.in_default-two_digits.is,
+        ← c.in_err-d.ensures,
       ),
       refl,
     )
 
-pub returns-in_default-two_digits-2 : goal.returns-in_default-two_digits-2
+pub returns-in_err-y : goal.returns-in_err-y
 unfolding day_of
-returns-in_default-two_digits-2 c =
+returns-in_err-y c =
     let l = c.if-f-ne-DATE_SIZE.false in
-    let f = c.args.f.now in (
+    let f = c.args.f.now in
+    rw c.from_residual-in_err-y.ensures (
       rw (
         eq-eqb _ _ l,
         two_part f 0 (omega (arith, l)),
-        ← c.two_digits.ensures,
-        c.in-Number.is,
+        ← c.in_ok-m.ensures,
         two_part f 2 (omega (arith, l)),
-        ← c.two_digits-2.ensures,
-        c.in-Number-two_digits.is,
+        ← c.in_ok-d.ensures,
         two_part f 4 (omega (arith, l)),
-        ← c.two_digits-3.ensures,
-        c.in_default-two_digits-2.is,
+        ← c.in_err-y.ensures,
       ),
       refl,
     )
@@ -63,14 +60,11 @@ returns c =
       rw (
         eq-eqb _ _ l,
         two_part f 0 (omega (arith, l)),
-        ← c.two_digits.ensures,
-        c.in-Number.is,
+        ← c.in_ok-m.ensures,
         two_part f 2 (omega (arith, l)),
-        ← c.two_digits-2.ensures,
-        c.in-Number-two_digits.is,
+        ← c.in_ok-d.ensures,
         two_part f 4 (omega (arith, l)),
-        ← c.two_digits-3.ensures,
-        c.in-Number-two_digits-2.is,
+        ← c.in_ok-y.ensures,
       ) c.day_from.ensures.0,
       c.day_from.ensures.1,
     )

@@ -1,5 +1,5 @@
--- The first i slots are converted and the length stays; n - i falls. The turn is the definition's own step: place_back makes the lent part
--- that comes back the slot of with_slot, place_part the part that was lent slot i. At the end i is n.
+-- The first i slots are converted and the length stays. The turn is the definition's own step: place_back makes the lent part that comes
+-- back the slot of with_slot, place_part the part that was lent slot i. At the end i is n.
 use Prim.Native.Nat.{ℕ, ◌+◌, ◌*◌, ◌-◌}
 use mathlib.Core.Path.{◌≡◌, refl, ap, ◌∙◌}
 use mathlib.Core.List.{List, ◌++◌}

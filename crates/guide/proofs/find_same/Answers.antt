@@ -1,40 +1,13 @@
--- No row below i is the same as g, and n - i falls. Rows that next_on skips are of another street, and by row_not not the same, so
--- passed_on moves i over them; what is left is passed_more after a miss, passed_hit at a hit, passed_all at the end.
-use Prim.Native.Nat.{◌+◌, ◌/◌}
-use lib.ListN.{length}
+-- A row of another street than g's fails the test by same_not, so by sought_on what seek_on finds is what the walk of
+-- is_same_by finds, and same_at asks that of each slot.
+use borrow.Author.Rules.{rules}
 use Rattle.rules.specs.Rows.{same_at, is_same_by}
-use Rattle.rules.proofs.WalkLaws.{passed_none, passed_more, passed_hit, passed_all}
-use Rattle.rules.proofs.PlaceLaws.{place_test}
-use Rattle.guide.proofs.StreetLaws.{passed_on, row_not}
+use Rattle.guide.proofs.StreetLaws.{sought_on, same_not}
 use Rattle.guide.proofs.find_same.Goals as goal
 
-pub loop-i-init : goal.loop-i-init
-loop-i-init c =
-    let g = c.args.g.now in
-    let guide = c.args.guide.now in
-    passed_on (same_at g guide) (length guide / 208) c.row_street-street.result.now guide
-    (row_not g c.row_street-street.result.now guide c.row_street-street.ensures) 0 c.next_on-i.result (passed_none _ _) c.next_on-i.ensures
-
-pub returns-then-is_same : goal.returns-then-is_same
-unfolding same_at
-returns-then-is_same c =
-    let g = c.args.g.now in
-    let guide = c.args.guide.now in
-    passed_hit (same_at g guide) (length guide / 208) c.loop-i.i c.loop-i.invariant c.loop-i-test.true
-    (place_test 208 (is_same_by g) guide c.loop-i.i c.is_same.ensures c.if-is_same.true)
-
-pub loop-i-preserved : goal.loop-i-preserved
-unfolding same_at
-loop-i-preserved c =
-    let i = c.loop-i.i in
-    let g = c.args.g.now in
-    let guide = c.args.guide.now in
-    passed_on (same_at g guide) (length guide / 208) c.row_street-street.result.now guide
-    (row_not g c.row_street-street.result.now guide c.row_street-street.ensures) (i + 1) c.next_on-i-in-loop-i.result
-    (passed_more (same_at g guide) (length guide / 208) i c.loop-i.invariant c.loop-i-test.true
-    (place_test 208 (is_same_by g) guide i c.is_same.ensures c.if-is_same.false)) c.next_on-i-in-loop-i.ensures
-
 pub returns : goal.returns
+unfolding same_at
 returns c =
-    let guide = c.args.guide.now in
-    passed_all (same_at c.args.g.now guide) (length guide / 208) c.loop-i.i c.loop-i.invariant c.loop-i-test.false
+    let g = c.args.g.now in
+    sought_on c.row_street.result.now (is_same_by g) (λ s b a. search rules)
+    (λ s e. same_not g s (rw c.row_street.ensures at e)) c.seek_on.ensures

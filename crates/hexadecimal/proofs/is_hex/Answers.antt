@@ -1,9 +1,21 @@
--- is_hex of what is left from i on is is_hex of the line, and the length less i falls by two. hex_more passes a pair, hex_not ends at one
--- that is no byte, and hex_end tells by i whether a last character stands alone.
-use Rattle.desk_rules.proofs.HexLaws.{hex_end}
+-- An even number of characters are whole bytes where all of them are digits (even_digits), an odd number never are (odd_length).
+use Rattle.std.proofs.Common.{◌≡◌, ◌≢◌, ◌%◌, ◌∙◌, sym, length, rules, tests}
+use Rattle.std.proofs.lemmas.Iterator.{YieldsList-from_slice}
+use Rattle.std.proofs.lemmas.Iterator.Search.{all_from_yields_List}
+use Rattle.std.specs.Char.{is_ascii_hexdigit}
+use Rattle.hexadecimal.proofs.PairLaws.{even_digits, odd_length}
 use Rattle.hexadecimal.proofs.is_hex.Goals as goal
 
-pub returns : goal.returns
-returns c =
+pub returns-then-is_multiple_of : goal.returns-then-is_multiple_of
+returns-then-is_multiple_of c =
     let line = c.args.line.now in
-    hex_end line c.loop-i.i c.loop-i.invariant.1 c.loop-i.invariant.0 c.loop-i-test.false
+    let digits = all_from_yields_List is_ascii_hexdigit _ _ c.all.result c.all.ensures.ran (YieldsList-from_slice line cc)
+    (λ x b q k. search (rules, tests)) in
+    let even : length line % 2 ≡ 0 = search rules in
+    digits ∙ even_digits line even
+
+pub returns-else-is_multiple_of : goal.returns-else-is_multiple_of
+returns-else-is_multiple_of c =
+    let line = c.args.line.now in
+    let odd : length line % 2 ≢ 0 = search rules in
+    c.if-is_multiple_of.false ∙ sym (odd_length line odd)

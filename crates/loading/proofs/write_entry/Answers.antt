@@ -1,5 +1,5 @@
--- With an entry, entry_room finds the bytes of a line from `at`, write_line fills them, and entry_back sets that part into the output;
--- without one the output is its bytes before `at` and those from there on, with nothing between (entry_none).
+-- With an entry, entry_room finds the bytes of a line from `at`, and write_line fills them, which set into the output are what is promised;
+-- without one the output is its bytes before `at` and those from there on, with nothing between.
 use mathlib.Core.Path.{sym, ap, ◌∙◌}
 use mathlib.Core.List.{List}
 use Prim.Native.Nat.{ℕ}
@@ -17,7 +17,7 @@ write_line-requires c =
     let slot = c.args.slot.now in
     let out = c.args.out.now in
     let room = entry_room (is_entry slot) (shape_of (Data c.args.version)).line c.sizes_of-sizes.result.line the_at (length out)
-    (sym c.is_entry.ensures ∙ c.if-is_entry.true) c.sizes_of-sizes.ensures.0.1 c.requires.1 in (
+    (sym c.is_entry.ensures ∙ c.if-not-is_entry.false) c.sizes_of-sizes.ensures.0.1 c.requires.1 in (
       ap (λ (s : List ℕ). length s) c.rec.ensures ∙ record_length slot c.requires.0,
       line_room c.sizes_of-sizes.result.line the_at out room ∙ c.sizes_of-sizes.ensures.0.1,
     )

@@ -1,18 +1,13 @@
--- load_size is load_size of the entries, which the output holds (file_room), so the three lent parts lie in it, and what is lent for the
--- lines has room for them (lines_room). Each callee promises its own part, and file_written joins header, lines and trailer to load_file,
--- with the bytes behind load_size as they were.
+-- load_size is load_size of the entries, which the output holds (file_room), so the three lent parts lie in it. Each callee promises its
+-- own part, and file_written joins header, lines and trailer to load_file, with the bytes behind load_size as they were.
 use Prim.Native.Nat.{◌-◌}
 use mathlib.Core.Path.{ap, ◌∙◌}
 use lib.ListN.{length, take, drop}
 use Rattle.layout.specs.declared.counter.Cycle.{Cycle}
 use Rattle.layout.specs.Frames.{header_with}
-use Rattle.loading.proofs.WriteLaws.{entries_few, file_room, file_written}
+use Rattle.loading.proofs.WriteLaws.{file_room, file_written}
 use borrow.Author.Rules.{rules}
 use Rattle.loading.proofs.write_file.Goals as goal
-
-pub load_size-all-requires : goal.load_size-all-requires
-load_size-all-requires c =
-    entries_few c.args.register.now c.args.entries c.requires.1.0 c.requires.0
 
 pub slice_bounds-put_header-end : goal.slice_bounds-put_header-end
 slice_bounds-put_header-end c =
@@ -32,11 +27,6 @@ slice_bounds-put_trailer-end c =
     in
     let h = file_room c.args.version c.args.register.now c.args.entries c.sizes_of-sizes.result.frame c.load_size-all.result
     c.args.out.now pre.1.0 pre.1.1 c.sizes_of-sizes.ensures.0.0 c.load_size-all.ensures.0 in
-    search rules
-
-pub overflow_cast-entries : goal.overflow_cast-entries
-overflow_cast-entries c =
-    let f = entries_few c.args.register.now c.args.entries c.requires.1.0 c.requires.0 in
     search rules
 
 pub returns : goal.returns

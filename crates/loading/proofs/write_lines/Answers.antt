@@ -1,5 +1,5 @@
--- The records of the first i slots stand one behind the other up to `at`, and the old bytes from there on (Laid); n - i falls. laid_room
--- finds room for the next, as no more entries lie below i + 1 than in all; laid_more is the turn, laid_all the end.
+-- The records of the first i slots stand one behind the other up to `at`, and the old bytes from there on (Laid). laid_room finds room for
+-- the next, as no more entries lie below i + 1 than in all; laid_more is the turn, laid_all the end.
 use Rattle.rules.specs.Loads.{entry_at}
 use Rattle.rules.proofs.SlotLaws.{length_slot_at}
 use Rattle.loading.proofs.WriteLaws.{laid_none, laid_length, laid_room, laid_more, laid_all}

@@ -1,5 +1,5 @@
--- fill leaves nothing but spaces, and put_digits fills the w bytes from a; among_spaces_lem makes the spaces before, the digits and the spaces
--- behind them among_spaces.
+-- fill leaves nothing but spaces, and put_digits fills the w bytes from a: the spaces before, the digits and the spaces behind them make
+-- among_spaces (among_spaces_lem).
 use lib.ListN.{length}
 use Rattle.text.proofs.Laws.{among_spaces_lem}
 use Rattle.text.proofs.put_among_spaces.Goals as goal

@@ -1,5 +1,4 @@
--- Other lengths decide at once (same_lengths). Then the first i bytes agree and what is left decides; length - i falls by 8. same_many goes
--- past equal words, same_part_not ends at others, and are_rest_same promises the comparison of the last few bytes.
+-- The bytes before i agree, and then those before j, so what is left decides; length - i falls by 8.
 use mathlib.Core.Path.{◌≡◌}
 use Prim.Native.Nat.{◌≤◌, ◌-◌}
 use lib.ListN.{length, drop}
@@ -7,7 +6,11 @@ use Rattle.text.specs.Text.{same_bytes}
 use Rattle.text.proofs.same.Given as goal
 
 abbrev pub invariant-loop-i : goal.invariant-loop-i
-invariant-loop-i l = (l.i ≤ length l.a) × (length l.b ≡ length l.a) × (same_bytes (drop l.i l.a) (drop l.i l.b) ≡ same_bytes l.a l.b)
+invariant-loop-i l =
+    (l.i ≤ length l.a) × (length l.b ≡ length l.a) × (same_bytes (drop l.i l.a) (drop l.i l.b) ≡ same_bytes l.a l.b)
 
 abbrev pub decreases-loop-i : goal.decreases-loop-i
 decreases-loop-i l = length l.a - l.i
+
+abbrev pub invariant-loop-j : goal.invariant-loop-j
+invariant-loop-j l = (length l.b ≡ length l.a) × (same_bytes (drop l.j l.a) (drop l.j l.b) ≡ same_bytes l.a l.b)

@@ -1,21 +1,15 @@
--- From the end: all behind n is spaces, and n falls. The first byte that is no space is the last that is left (trim_end); if there is
--- none, nothing is.
-use mathlib.Core.Path.{◌≡◌}
-use native.Mathlib.Omega.{arith}
-use native.Mathlib.Numerals.{unary_clauses}
-use Rattle.text.proofs.TrimLaws.{trim_end, trim_none}
+-- A space at the end counts for nothing (trim_space); a line that ends in another byte is left whole (trim_other).
+use mathlib.Core.Path.{sym, ap, ◌∙◌}
+use Rattle.text.specs.Text.{trim_of}
+use Rattle.text.proofs.TrimLaws.{trim_space, trim_other}
 use Rattle.text.proofs.trimmed.Goals as goal
 
-pub returns-else-f-n-eq32 : goal.returns-else-f-n-eq32
-returns-else-f-n-eq32 c =
-    let test = c.loop-n-test.true in
-    let loop = c.loop-n in
-    let f = c.args.f in
-    simp unary_clauses (trim_end f.now loop.n loop.invariant.0 loop.invariant.1 test c.if-f-n-eq32.false)
+pub returns-then-last-ne32 : goal.returns-then-last-ne32
+returns-then-last-ne32 c =
+    let e = c.in-Some.ensures.cases.0 in
+    e ∙ sym (trim_other c.in-Some.before.now c.if-last-ne32.true) ∙ sym (ap trim_of e) ∙ c.loop-last.invariant
 
-pub returns : goal.returns
-returns c =
-    let loop = c.loop-n in
-    let f = c.args.f.now in
-    let z : loop.n ≡ 0 = omega arith in
-    trim_none f (rw z at loop.invariant.1)
+pub loop-last-preserved : goal.loop-last-preserved
+loop-last-preserved c =
+    let e = c.in-Some.ensures.cases.0 in
+    sym (trim_space c.in-Some.before.now c.if-last-ne32.false) ∙ sym (ap trim_of e) ∙ c.loop-last.invariant

@@ -1,14 +1,11 @@
--- From the end: all behind n is spaces, and n falls. The first byte that is no space is the last that is left (trim_end); if there is
--- none, nothing is.
+-- What is left at a turn is the line without some of the spaces at its end: without all of them it is what the line is. It grows shorter.
 use mathlib.Core.Path.{◌≡◌}
-use mathlib.Core.Bool.{true}
-use Prim.Native.Nat.{◌≤◌}
-use lib.ListN.{length, drop}
-use Rattle.text.specs.Text.{blank}
+use lib.ListN.{length}
+use Rattle.text.specs.Text.{trim_of}
 use Rattle.text.proofs.trimmed.Given as goal
 
-abbrev pub invariant-loop-n : goal.invariant-loop-n
-invariant-loop-n l = (l.n ≤ length l.f) × (blank (drop l.n l.f) ≡ true)
+abbrev pub invariant-loop-last : goal.invariant-loop-last
+invariant-loop-last l = trim_of l.left ≡ trim_of l.f
 
-abbrev pub decreases-loop-n : goal.decreases-loop-n
-decreases-loop-n l = l.n
+abbrev pub decreases-loop-last : goal.decreases-loop-last
+decreases-loop-last l = length l.left
