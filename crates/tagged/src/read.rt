@@ -91,8 +91,8 @@ impl Walk {
             return;
         };
         let row = table::row_at(k);
-        let at = usize::from(row.at);
-        let end = at + usize::from(row.size);
+        let at = row.at;
+        let end = at + row.size;
         let value = text::part_of(pair, LETTERS, pair.len());
         let again = self.seen[k] == 1;
         let fit = take_value(row.form, again, value, &mut self.line[at..end]);

@@ -20,32 +20,37 @@ row_at-row-requires c = tag_in c.args.pair.now c.args.tag c.in-Some.k c.requires
 pub bounds-self-inside-k : goal.bounds-self-inside-k
 bounds-self-inside-k c = tag_in c.args.pair.now c.args.tag c.in-Some.k c.requires c.in-Some.is
 
+pub overflow_add-end : goal.overflow_add-end
+overflow_add-end c =
+    let k = c.in-Some.k in
+    let h = tag_in c.args.pair.now c.args.tag k c.requires c.in-Some.is in
+    let r = c.row_at-row.result.now in
+    let row = c.row_at-row.ensures in
+    omega (arith, place_in k r.at r.size h row.at row.size)
+
 pub slice_bounds-take_value-end : goal.slice_bounds-take_value-end
 slice_bounds-take_value-end c =
     let k = c.in-Some.k in
     let h = tag_in c.args.pair.now c.args.tag k c.requires c.in-Some.is in
+    let r = c.row_at-row.result.now in
     let row = c.row_at-row.ensures in
-    let a = c.from-at.ensures ∙ row.at in
-    let z = c.from.ensures ∙ row.size in
-    omega (arith, place_in k c.from-at.result c.from.result h a z)
+    omega (arith, place_in k r.at r.size h row.at row.size)
 
 pub take_value-fit-requires-clause-shaped : goal.take_value-fit-requires-clause-shaped
 take_value-fit-requires-clause-shaped c =
     let k = c.in-Some.k in
     let h = tag_in c.args.pair.now c.args.tag k c.requires c.in-Some.is in
+    let r = c.row_at-row.result.now in
     let row = c.row_at-row.ensures in
-    let a = c.from-at.ensures ∙ row.at in
-    let z = c.from.ensures ∙ row.size in
-    lent_shaped k c.from-at.result c.from.result h a z c.self.inside.line (search rules) c.row_at-row.result.now.form row.form
+    lent_shaped k r.at r.size h row.at row.size c.self.inside.line (search rules) r.form row.form
 
 pub take_value-fit-requires-clause-blank : goal.take_value-fit-requires-clause-blank
 take_value-fit-requires-clause-blank c =
     let k = c.in-Some.k in
     let h = tag_in c.args.pair.now c.args.tag k c.requires c.in-Some.is in
+    let r = c.row_at-row.result.now in
     let row = c.row_at-row.ensures in
-    let a = c.from-at.ensures ∙ row.at in
-    let z = c.from.ensures ∙ row.size in
-    lent_blank k c.from-at.result c.from.result h a z c.self.inside.line (search rules) c.self.inside.seen c.self.invariant
+    lent_blank k r.at r.size h row.at row.size c.self.inside.line (search rules) c.self.inside.seen c.self.invariant
 
 pub bounds-self-inside-k-2 : goal.bounds-self-inside-k-2
 bounds-self-inside-k-2 c = tag_in c.args.pair.now c.args.tag c.in-Some.k c.requires c.in-Some.is
@@ -53,20 +58,22 @@ bounds-self-inside-k-2 c = tag_in c.args.pair.now c.args.tag c.in-Some.k c.requi
 pub invariant_of-self-2 : goal.invariant_of-self-2
 invariant_of-self-2 c =
     let w = c.self.inside in
+    let r = c.row_at-row.result.now in
     let row = c.row_at-row.ensures in
-    let taken = label_taken_lem c.args.pair.now c.args.tag c.in-Some.k c.requires c.in-Some.is c.from-at.result c.from.result
-    (c.from-at.ensures ∙ row.at) (c.from.ensures ∙ row.size) (record { notes = w.notes; seen = w.seen; line = w.line }) (search rules)
-    c.row_at-row.result.now.form row.form c.part_of-value.result.now c.take_value-fit.new.span c.take_value-fit.result
+    let d : Draft = record { notes = w.notes; seen = w.seen; line = w.line } in
+    let taken = label_taken_lem c.args.pair.now c.args.tag c.in-Some.k c.requires c.in-Some.is r.at r.size row.at row.size d (search rules)
+    r.form row.form c.part_of-value.result.now c.take_value-fit.new.span c.take_value-fit.result
     c.part_of-value.ensures c.take_value-fit.ensures.fits c.take_value-fit.ensures.spread in
-    subst (λ (d : Draft). Clear d.seen d.line) (sym taken)
-    (still_clear c.args.pair.now (record { notes = w.notes; seen = w.seen; line = w.line }) (search rules) (search rules) c.self.invariant)
+    subst (λ (x : Draft). Clear x.seen x.line) (sym taken)
+    (still_clear c.args.pair.now d (search rules) (search rules) c.self.invariant)
 
 pub returns : goal.returns
 returns c =
     let w = c.self.inside in
+    let r = c.row_at-row.result.now in
     let row = c.row_at-row.ensures in
-    label_taken_lem c.args.pair.now c.args.tag c.in-Some.k c.requires c.in-Some.is c.from-at.result c.from.result
-    (c.from-at.ensures ∙ row.at) (c.from.ensures ∙ row.size) (record { notes = w.notes; seen = w.seen; line = w.line }) (search rules)
-    c.row_at-row.result.now.form row.form c.part_of-value.result.now c.take_value-fit.new.span c.take_value-fit.result
+    let d : Draft = record { notes = w.notes; seen = w.seen; line = w.line } in
+    label_taken_lem c.args.pair.now c.args.tag c.in-Some.k c.requires c.in-Some.is r.at r.size row.at row.size d (search rules)
+    r.form row.form c.part_of-value.result.now c.take_value-fit.new.span c.take_value-fit.result
     c.part_of-value.ensures c.take_value-fit.ensures.fits c.take_value-fit.ensures.spread
     ∙ ap (pair_taken c.args.pair.now) c.self.view_is
