@@ -55,10 +55,15 @@ pub fn run(rt: &impl Print, line: &[u8]) -> io::Result<()> {
     let mut guide = [0u8; 8192];
     let mut file = [0u8; 8192];
     let mut answers = [0u8; 64];
-    let register = read::part(&mut register, line, "register=");
-    let guide = read::part(&mut guide, line, "guide=");
-    let file = read::part(&mut file, line, "file=");
-    let answers = read::part(&mut answers, line, "answers=");
+    // Each part's value is looked for in the line once.
+    let register_value = read::value(line, "register=");
+    let guide_value = read::value(line, "guide=");
+    let file_value = read::value(line, "file=");
+    let answers_value = read::value(line, "answers=");
+    let register = read::part(&mut register, register_value);
+    let guide = read::part(&mut guide, guide_value);
+    let file = read::part(&mut file, file_value);
+    let answers = read::part(&mut answers, answers_value);
     let lent = Lent {
         register: &mut register[..],
         guide: &mut guide[..],
@@ -66,9 +71,9 @@ pub fn run(rt: &impl Print, line: &[u8]) -> io::Result<()> {
         answers: &mut answers[..],
     };
     returned(rt, taken(line, lent))?;
-    write::part(rt, line, "register=", register)?;
-    write::part(rt, line, "guide=", guide)?;
-    write::part(rt, line, "file=", file)?;
-    write::part(rt, line, "answers=", answers)?;
+    write::part(rt, "register=", register_value, register)?;
+    write::part(rt, "guide=", guide_value, guide)?;
+    write::part(rt, "file=", file_value, file)?;
+    write::part(rt, "answers=", answers_value, answers)?;
     println!(rt)
 }

@@ -4,6 +4,8 @@
 // slot, and files of several lines; some lines are of Version 1.
 #![tactic(auto)]
 
+ghost use Rattle.std.specs.Prelude.{◌≤◌, length, IfOk};
+
 mod calls;
 mod read;
 mod write;
@@ -11,14 +13,27 @@ mod write;
 use std::io;
 use std::io::Read;
 
+// Reads to the end of input, or until the buffer is full; how many bytes came. Each read has all the room that is left: of a message that
+// is longer than a read, what is behind is lost.
+fn read_full(rt: &impl Input, input: &mut [u8]) -> io::Result<usize>
+    ensures { IfOk result (λ n. n ≤ length input.new) }
+{
+    let mut reader = rt.reader();
+    let mut n = 0;
+    while n < input.len() {
+        let got = reader.read(&mut input[n..])?;
+        if got == 0 {
+            break;
+        }
+        n += got;
+    }
+    Ok(n)
+}
+
 fn main(rt: HostRuntime) -> io::Result<()> {
     // More than the file stdin has; of a longer input no more than this is read.
     let mut input = [0u8; 393216];
-    let mut reader = rt.reader().take(393216);
-    let mut room = &mut input[..];
-    io::copy(&mut reader, &mut room)?;
-    let left = room.len();
-    let n = input.len().saturating_sub(left);
+    let n = read_full(&rt, &mut input)?;
     // Behind the last line's end there is no other line.
     for line in input[..n].split_inclusive(|b| *b == b'\n') {
         calls::run(&rt, line.strip_suffix(b"\n").unwrap_or(line))?;

@@ -1,6 +1,6 @@
 // The words of a line: the call's name, and values with a name each: decimal numbers, and bytes in hexadecimal, where `(HEX*N)` is HEX
 // repeated N times. A line is bytes and need not be text.
-ghost use Rattle.std.specs.Prelude.{◌<◌};
+ghost use Rattle.std.specs.Prelude.{◌≤◌, ◌<◌, length};
 
 // The call's name, the line's first word.
 pub fn name(line: &[u8]) -> &[u8] {
@@ -35,7 +35,9 @@ fn digit(b: u8) -> u8
 
 // The bytes that pairs of digits spell, this many times at the front of `room`, which keeps the rest. A time that does not fit whole
 // is left out with those behind it, and so is a last digit that has no other.
-fn put_times(room: &mut &mut [u8], hex: &[u8], times: u32) {
+fn put_times(room: &mut &mut [u8], hex: &[u8], times: u32)
+    ensures { length room.new.now ≤ length room.old.now }
+{
     let (pairs, _) = hex.as_chunks::<2>();
     for _ in 0..times {
         let Some(to) = room.split_off_mut(..pairs.len()) else {
@@ -47,11 +49,13 @@ fn put_times(room: &mut &mut [u8], hex: &[u8], times: u32) {
     }
 }
 
-// The bytes of the value with this name, at the front of `out`.
-pub fn part<'a>(out: &'a mut [u8], line: &[u8], name: &str) -> &'a mut [u8] {
+// The bytes of a value, at the front of `out`.
+pub fn part<'a>(out: &'a mut [u8], value: &[u8]) -> &'a mut [u8]
+    ensures { length result.now ≤ length out.old }
+{
     let mut room = &mut out[..];
     // A piece is hexadecimal, or HEX*N, within brackets or not.
-    for piece in value(line, name).split(|b| matches!(*b, b'(' | b')')) {
+    for piece in value.split(|b| matches!(*b, b'(' | b')')) {
         let mut halves = piece.splitn(2, |b| *b == b'*');
         let hex = halves.next().unwrap_or(b"");
         let times = halves.next().map_or(1, number);

@@ -16,13 +16,13 @@ fn run(rt: &impl Print, bytes: &[u8]) -> io::Result<()> {
     }
 }
 
-// A part that the line lends under this name, and that holds these bytes then. What it held is read anew from the line, so that
-// each part is looked at, also one that a take may not write.
-pub fn part(rt: &impl Print, line: &[u8], name: &str, bytes: &[u8]) -> io::Result<()> {
+// A part that the line lends by this value under this name, and that holds these bytes then. What it held is read anew from the line's
+// value, so that each part is looked at, also one that a take may not write.
+pub fn part(rt: &impl Print, name: &str, value: &[u8], bytes: &[u8]) -> io::Result<()> {
     // The register is the largest part.
     let mut was = [0u8; 32768];
     print!(rt; " {name}")?;
-    if *read::part(&mut was, line, name) == *bytes {
+    if *read::part(&mut was, value) == *bytes {
         return print!(rt; "same");
     }
     for same in bytes.chunk_by(|a, b| a == b) {

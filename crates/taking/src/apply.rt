@@ -2,6 +2,7 @@
 ghost use Rattle.std.specs.Prelude.{ℕ, List, ◌≡◌, ◌≤◌, ◌<◌, length, drop, ◌++◌};
 ghost use Rattle.taking.specs.Steps.{Stepped};
 ghost use Rattle.rules.specs.declared.Kind.TheVariants.{Data, Guide};
+ghost use Rattle.versions.specs.declared.Version.TheVariants.{One};
 ghost use Rattle.rules.specs.Takes.{line_applied, after, answers_to, zeros_in};
 
 use crate::checks;
@@ -9,17 +10,26 @@ use layout::frame::Header;
 use rules::Kind;
 use versions::Version;
 
-// A record, applied as one of Version 2: a record of Version 1 is widened first, into the only copy that is made of it.
+// A record of Version 1, widened into the only copy that is made of it. Never inlined: the frame of an apply would have that copy, for
+// files of Version 2 too.
+#[inline(never)]
+#[tactic(auto, unfolding(rules::specs::Takes::line_applied))]
+fn apply_narrow(register: &mut [u8], guide: &[u8], h: Header, line: &[u8]) -> u8
+    ensures { (result ≡ (line_applied (Data One) h line.now (record { register = register.old; guide = guide.now })).answer)
+        × (register.new ≡ (line_applied (Data One) h line.now (record { register = register.old; guide = guide.now })).stores.register) }
+{
+    let wide = versions::widened(line);
+    data_step::apply_record(register, guide, h, &wide)
+}
+
+// A record, applied as one of Version 2: a record of Version 1 is widened first.
 #[tactic(auto, unfolding(rules::specs::Takes::line_applied))]
 fn apply_line(version: Version, register: &mut [u8], guide: &[u8], h: Header, line: &[u8]) -> u8
     ensures { (result ≡ (line_applied (Data version) h line.now (record { register = register.old; guide = guide.now })).answer)
         × (register.new ≡ (line_applied (Data version) h line.now (record { register = register.old; guide = guide.now })).stores.register) }
 {
     match version {
-        Version::One => {
-            let wide = versions::widened(line);
-            data_step::apply_record(register, guide, h, &wide)
-        }
+        Version::One => apply_narrow(register, guide, h, line),
         Version::Two => data_step::apply_record(register, guide, h, line),
     }
 }

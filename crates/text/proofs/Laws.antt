@@ -125,11 +125,16 @@ run_most k (b ∷ s) = go (run_most k s) (in_class k b)
     go ih true = omega arith
     go ih false = omega arith
 
-pub run_stop : (k : Class) (b : ℕ) (s : List ℕ) → in_class k b ≡ false → run_of k (b ∷ s) ≡ 0
-run_stop k b s e = rw e
+pub run_ends : (k : Class) (b : ℕ) (s : List ℕ) → in_class k b ≡ false → run_of k (b ∷ s) ≡ 0
+run_ends k b s e = rw e
 
 pub run_past : (k : Class) (b : ℕ) (s : List ℕ) → in_class k b ≡ true → run_of k (b ∷ s) ≡ run_of k s + 1
 run_past k b s e = rw e (omega arith)
+
+-- the end of the run of a class at a byte that is not of it
+module _ (k : Class) (s : List ℕ) (i : ℕ) {v : ℕ} (inv : i + run_of k (drop i s) ≡ v) where
+  pub run_stop : i < length s → in_class k (get_or s i 0) ≡ false → i ≡ v
+  run_stop h e = let t = rw e at (turn (λ x. i + run_of k x) s i h inv) in omega arith
 
 -- what is of a class from end to end
 pub run_whole : (k : Class) (s : List ℕ) → eqb (run_of k s) (length s) ≡ all_in k s
